@@ -6,7 +6,7 @@ use Rattle.run_promise.specs.declared.fault.Fault.{Fault}
 use Rattle.run_promise.specs.declared.fault.Fault.TheVariants as faults
 use Rattle.run_promise.specs.Ahead.{IsReadAhead, MayBeAhead}
 use Rattle.run_promise.specs.CommandOf.{CommandOf, Names, points_of, lines_of, init_of, import_of, append_of, export_of, tiles_of, query_of}
-use Rattle.run_promise.specs.CommandOf.{feed_of, serve_of, replay_of, migrate_of, check_of, demo_of}
+use Rattle.run_promise.specs.CommandOf.{feed_of, follow_of, serve_of, replay_of, migrate_of, check_of, demo_of}
 use Rattle.run_promise.specs.Leaves.{HasCause}
 use Rattle.run_promise.specs.World.{Before, World, with_files}
 
@@ -31,6 +31,7 @@ ahead_named (lines_of key files) fault file may = absurd may
 ahead_named (init_of store) fault file may = absurd may
 ahead_named (import_of store files buckets workers) fault file may = absurd may
 ahead_named (feed_of store files full workers) fault file may = absurd may
+ahead_named (follow_of store files) fault file may = absurd may
 ahead_named (export_of store table) fault file may = absurd may
 ahead_named (tiles_of store least clear) fault file may = absurd may
 ahead_named (query_of store files) fault file may = absurd may
@@ -55,6 +56,8 @@ cause_ahead old seen new (Some (faults.Malformed file line why)) later cause = t
 cause_ahead old seen new (Some (faults.BadStyle file why part)) later cause = tt
 cause_ahead old seen new (Some (faults.BadBounds file line)) later cause = tt
 cause_ahead old seen new (Some (faults.BadQuery file line why)) later cause = tt
+cause_ahead old seen new (Some (faults.BadFeed file line why)) later cause = tt
+cause_ahead old seen new (Some (faults.Gap file have got)) later cause = tt
 cause_ahead old seen new (Some (faults.Limit which value)) later cause = tt
 cause_ahead old seen new (Some faults.NotFormatted) later cause = tt
 cause_ahead old seen new (Some faults.NotEmpty) later cause = tt

@@ -16,13 +16,14 @@ use Rattle.opl_object.specs.declared.why.Why.{Why}
 use Rattle.opl_object.specs.declared.why.Why.TheVariants as causes
 use Rattle.opl_object.specs.Why.{number_of}
 use Rattle.run_promise.specs.declared.fault.Fault.{Fault}
-use Rattle.run_promise.specs.declared.fault.Fault.TheVariants.{Usage, Malformed, BadStyle, BadBounds, BadQuery, Limit, ReadFault}
+use Rattle.run_promise.specs.declared.fault.Fault.TheVariants.{Usage, Malformed, BadStyle, BadBounds, BadQuery, BadFeed, Gap, Limit}
 use Rattle.run_promise.specs.declared.fault.Fault.TheVariants.{NotFormatted, NotEmpty, NotImported, AlreadyImported, OldFormat, Follower}
-use Rattle.run_promise.specs.declared.fault.Fault.TheVariants.{UnknownTable, BadStore, WriteFault, DiskFault, OutOfMemory}
+use Rattle.run_promise.specs.declared.fault.Fault.TheVariants.{UnknownTable, BadStore, ReadFault, WriteFault, DiskFault, OutOfMemory}
 use Rattle.style_read.specs.declared.fault.StylePart.{StylePart}
 use Rattle.style_read.specs.declared.fault.StylePart.TheVariants as parts
 use Rattle.style_read.specs.Why.{number_of as style_number}
 use Rattle.map_query.specs.Fault.{number_of as query_number}
+use Rattle.delta_feed.specs.Why.{number_of as feed_number}
 use Rattle.run_promise.specs.Faults.{fault_text, kind_text, key_text, limit_text, order_text, part_text}
 
 IsAscii-cons : (byte : ℕ) (bytes : List ℕ) → byte < 128 → IsAscii bytes → IsAscii (byte ∷ bytes)
@@ -117,6 +118,14 @@ IsAscii-two one other first second h k =
     let at : IsAscii (one ++ decimal first ++ other) = IsAscii-append (one ++ decimal first) other in_one k in
     IsAscii-append (one ++ decimal first ++ other) (decimal second) at (IsAscii-any_decimal second)
 
+-- and once more
+IsAscii-three : (one other last : List ℕ) (first second third : ℕ) → IsAscii one → IsAscii other → IsAscii last
+    → IsAscii (one ++ decimal first ++ other ++ decimal second ++ last ++ decimal third)
+IsAscii-three one other last first second third h k l =
+    let at : IsAscii (one ++ decimal first ++ other ++ decimal second ++ last) =
+    IsAscii-append (one ++ decimal first ++ other ++ decimal second) last (IsAscii-two one other first second h k) l in
+    IsAscii-append (one ++ decimal first ++ other ++ decimal second ++ last) (decimal third) at (IsAscii-any_decimal third)
+
 IsAscii-part_text : (part : StylePart) → IsAscii (part_text part)
 IsAscii-part_text parts.Top = IsAscii-words (codes "top") refl
 IsAscii-part_text (parts.Selection number) =
@@ -152,6 +161,12 @@ IsAscii-fault_text (BadQuery file line why) =
     (IsAscii-two (codes "bad query file ") (codes " line ") file line (IsAscii-words (codes "bad query file ") refl)
     (IsAscii-words (codes " line ") refl)) (IsAscii-words (codes " cause ") refl))
     (IsAscii-any_decimal (query_number why))
+IsAscii-fault_text (BadFeed file line why) =
+    IsAscii-three (codes "bad feed file ") (codes " line ") (codes " cause ") file line (feed_number why)
+    (IsAscii-words (codes "bad feed file ") refl) (IsAscii-words (codes " line ") refl) (IsAscii-words (codes " cause ") refl)
+IsAscii-fault_text (Gap file have got) =
+    IsAscii-three (codes "gap file ") (codes " have ") (codes " got ") file have got
+    (IsAscii-words (codes "gap file ") refl) (IsAscii-words (codes " have ") refl) (IsAscii-words (codes " got ") refl)
 IsAscii-fault_text (Limit which value) =
     let name : IsAscii (codes "limit " ++ limit_text which) =
     IsAscii-append (codes "limit ") (limit_text which) (IsAscii-words (codes "limit ") refl) (IsAscii-limit_text which) in

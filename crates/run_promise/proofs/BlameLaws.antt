@@ -1,6 +1,6 @@
 -- What each ending of a course tells: of files that are read in turn, and of something that is to blame.
-use Rattle.std.proofs.Common.{◌≡◌, ◌≢◌, ◌≤◌, ◌<◌, ◌+◌, ◌⊎◌, ℕ, zero, suc, Option, Some, None, List, [], ◌++◌, length, Result, Ok, Err}
-use Rattle.std.proofs.Common.{⊎_elim, inl, inr, refl, sym, ◌∙◌, ap, subst, arith}
+use Rattle.std.proofs.Common.{◌≡◌, ◌≢◌, ◌≤◌, ◌<◌, ◌+◌, ◌⊎◌, ℕ, zero, suc, Option, Some, None, List, [], ◌∷◌, ◌++◌, length, Result, Ok}
+use Rattle.std.proofs.Common.{Err, ⊎_elim, inl, inr, refl, sym, ◌∙◌, ap, subst, arith}
 use Rattle.std.proofs.lemmas.Bool.{cases_lt}
 use Rattle.osm_base.specs.declared.values.object.Entry.{Entry}
 use Rattle.osm_base.specs.declared.bounds.limits.LimitKind.{LimitKind}
@@ -14,21 +14,26 @@ use Rattle.page_journal.specs.declared.fault.StoreFault.TheVariants as stores
 use Rattle.update_flow.specs.History.{state_after}
 use Rattle.update_flow.specs.Opening.{MayOpenAs}
 use Rattle.update_flow.specs.Refusals.{OrFull, Refuses}
+use Rattle.delta_feed.specs.declared.block.Block.{Block}
 use Rattle.delta_feed.specs.declared.block.Block.TheVariants as blocks
 use Rattle.update_flow.specs.State.{State, formatted, imported, outdated, following, Step, Import, Append, Clear, Migrate, Follow}
+use Rattle.update_flow.specs.State.{after, changes_in}
 use Rattle.update_flow.specs.declared.fault.FlowFault.{FlowFault}
 use Rattle.update_flow.specs.declared.fault.FlowFault.TheVariants as flow
 use Rattle.run_promise.specs.Causes.{IsStoreLimit}
-use Rattle.run_promise.specs.Comes.{Breaks, BreaksIn, Comes, HoldsBytes, IsBadStore, IsBroken, IsNoStore, IsOfFile, IsRefusal, IsRefusedFor}
-use Rattle.run_promise.specs.Comes.{IsStepFault, MayTake, refused, short, unread}
+use Rattle.run_promise.specs.Comes.{Breaks, BreaksIn, BreaksWithin, Comes, FollowsTo, HoldsBytes, IsBadStore, IsBroken, IsNoStore, IsOfFeed}
+use Rattle.run_promise.specs.Comes.{IsOfFile, IsRefusal, IsRefusedFor, IsRefusedWithin, IsStepFault, MayTake, TakesWithin, TellsWithin}
+use Rattle.run_promise.specs.Comes.{refused, short, unread}
 use Rattle.run_promise.specs.Course.{Course, ends, refuses, reads, wants_empty, formats, opens, looks, commits, tells, writes, feeds}
-use Rattle.run_promise.specs.Courses.{gathers}
+use Rattle.run_promise.specs.Course.{follows}
+use Rattle.run_promise.specs.Courses.{gathers, version_line}
 use Rattle.run_promise.specs.Faults.{flow_fault}
 use Rattle.run_promise.specs.Files.{IsChange}
+use Rattle.run_promise.specs.Followed.{FeedEnd, IsFeed, over, stopped, unseen}
 use Rattle.run_promise.specs.InTurn.{FaultNames}
 use Rattle.run_promise.specs.Keeps.{first, perhaps, whole, with_step}
 use Rattle.run_promise.specs.Progress.{Standing, unknown, keeps, half_made, Progress, Ending, at, at_file, at_text, past, plus, with_store}
-use Rattle.run_promise.specs.Progress.{made, opened, committed, in_doubt, IsIn}
+use Rattle.run_promise.specs.Progress.{made, opened, committed, in_doubt, within_file, IsIn}
 use Rattle.run_promise.specs.World.{Before}
 use Rattle.run_promise.proofs.CourseLaws.{of_store, of_unknown, of_unused, three}
 
@@ -122,6 +127,11 @@ KeepsTo terms file quiet (commits step rest) = terms.store × KeepsTo terms file
 KeepsTo terms file quiet (tells text rest) = KeepsTo terms file ⊥ rest
 KeepsTo terms file quiet (writes Fits rest) = KeepsTo terms file ⊥ rest
 KeepsTo terms file quiet (feeds Fits rest) = KeepsTo terms file ⊥ rest
+-- each block of a feed is told before the next one is read
+KeepsTo terms file quiet (follows own state rest) = (own ≡ file) × (file < terms.end) × (terms.early → ⊥) × terms.store
+    × ((bytes : List ℕ) (told : List Block) (fault : Fault) → IsFeed own state bytes told (stopped fault) → terms.faulty own bytes fault)
+    × ((bytes : List ℕ) (told : List Block) → IsFeed own state bytes told over → terms.accepts own bytes)
+    × ((next : State) → KeepsTo terms (file + 1) ⊥ (rest next))
 
 -- a file of the terms has this fault, where it is told
 abbrev pub FileHas : Terms → Before → ℕ → Fault → Type 0
@@ -138,6 +148,8 @@ Blame terms old (Some (faults.Malformed file line why)) = FileHas terms old file
 Blame terms old (Some (faults.BadStyle file why part)) = FileHas terms old file (faults.BadStyle file why part)
 Blame terms old (Some (faults.BadBounds file line)) = FileHas terms old file (faults.BadBounds file line)
 Blame terms old (Some (faults.BadQuery file line why)) = FileHas terms old file (faults.BadQuery file line why)
+Blame terms old (Some (faults.BadFeed file line why)) = FileHas terms old file (faults.BadFeed file line why)
+Blame terms old (Some (faults.Gap file have got)) = FileHas terms old file (faults.Gap file have got)
 Blame terms old (Some (faults.Limit which value)) = IsOver terms old which value
 Blame terms old (Some (faults.ReadFault file)) = (terms.from ≤ file) × (file < terms.end)
 Blame terms old (Some faults.NotFormatted) = terms.opening × IfTold old.content (λ bytes. ¬ IsFormatted bytes)
@@ -163,12 +175,13 @@ pub record IsUpTo (terms : Terms) (old : Before) (file : ℕ) (quiet : Type 0) (
   -- a store of which nothing is known, though its disk tells what it holds, was there
   pub vague : done.store ≡ unknown → IfTold old.content (λ _. terms.opening)
 
--- the file that an ending was reading comes next, and nothing was written but by a command that may
+-- the file that an ending was reading comes next, and nothing was written but by a command that may; a text is told by half only where the
+-- output failed
 pub record IsNext (terms : Terms) (file : ℕ) (ending : Ending) (other : ℕ) : Type 0 where
   pub same : other ≡ file
   pub within : file < terms.end
   pub unwritten : terms.early → ending.done.written ≡ []
-  pub unbegun : ending.writing ≡ []
+  pub unbegun : ending.fault ≢ Some faults.WriteFault → ending.writing ≡ []
 
 -- what an ending tells
 pub record Tells (terms : Terms) (old : Before) (ending : Ending) : Type 0 where
@@ -257,7 +270,7 @@ module _ (terms : Terms) (old : Before) where
       same = (let here : other ≡ own = cc in here ∙ same);
       within = within;
       unwritten = λ h. up.unwritten (early h);
-      unbegun = refl;
+      unbegun = λ _. refl;
     };
     blame = blame;
     names = λ other h. ap Some (names other h);
@@ -287,6 +300,8 @@ module _ (terms : Terms) (old : Before) where
     λ other names. sym of_file
         ∙ names,
   )
+  blamed_file file (faults.BadFeed own line why) of_file low high told = absurd of_file
+  blamed_file file (faults.Gap own have got) of_file low high told = absurd of_file
   blamed_file file (faults.Limit which value) of_file low high told = (inr (file, (low, high, told)), λ other names. absurd names)
   blamed_file file faults.Usage of_file low high told = absurd of_file
   blamed_file file (faults.ReadFault own) of_file low high told = absurd of_file
@@ -342,6 +357,8 @@ module _ (terms : Terms) (old : Before) where
   told_state file quiet done (faults.BadStyle own why part) none up = absurd none
   told_state file quiet done (faults.BadBounds own line) none up = absurd none
   told_state file quiet done (faults.BadQuery own line why) none up = absurd none
+  told_state file quiet done (faults.BadFeed own line why) none up = absurd none
+  told_state file quiet done (faults.Gap own have got) none up = absurd none
   told_state file quiet done (faults.Limit which value) none up = absurd none
   told_state file quiet done (faults.ReadFault own) none up = absurd none
   told_state file quiet done faults.NotFormatted none up = absurd none
@@ -385,6 +402,141 @@ module _ (terms : Terms) (old : Before) where
   made_certain None bytes P is un = absurd (cc)
   made_certain (Some own) bytes P is un = absurd (cc)
 
+  -- the file that comes next was read, and is accepted where it is told
+  read_one : (file own : ℕ) (quiet : Type 0) (done : Progress) → own ≡ file → file < terms.end → UpTo file quiet done
+      → IfTold (old.left own) (terms.accepts own) → UpTo (file + 1) quiet (past own done)
+  read_one file own quiet done same high up accepts = record {
+    low = omega (arith, up.low);
+    high = omega (arith, high);
+    read = λ other from less. ⊎_elim (λ (below : other < file). inr (up.read other from below))
+        (λ (above : file ≤ other). inl (omega (arith, above, less, same))) (cases_lt other file);
+    accepted = λ other from less. ⊎_elim (λ (below : other < file). up.accepted other from below)
+        (λ (above : file ≤ other). let here : own ≡ other = omega (arith, above, less, same) in
+        subst (λ (at : ℕ). IfTold (old.left at) (terms.accepts at)) here accepts)
+        (cases_lt other file);
+    only = λ other read. ⊎_elim (λ (here : other ≡ own). (omega (arith, here, same, up.low), omega (arith, here, same)))
+        (λ (before : IsIn done.read other). ((up.only other before).0, omega (arith, (up.only other before).1))) read;
+    unwritten = up.unwritten;
+    vague = up.vague;
+  }
+
+  -- a fault of the bytes of a file of a feed
+  blamed_feed : (file : ℕ) (fault : Fault) → IsOfFeed file fault → terms.store → terms.from ≤ file → file < terms.end
+      → IfTold (old.left file) (λ bytes. terms.faulty file bytes fault)
+      → Blame terms old (Some fault) × ((other : ℕ) → FaultNames (Some fault) other → file ≡ other)
+  blamed_feed file (faults.BadFeed own line why) of_feed store low high told = (
+    subst (λ (at : ℕ). FileHas terms old at (faults.BadFeed own line why)) (sym of_feed) (low, high, told),
+    λ other names. sym of_feed
+        ∙ names,
+  )
+  blamed_feed file (faults.Gap own have got) of_feed store low high told = (
+    subst (λ (at : ℕ). FileHas terms old at (faults.Gap own have got)) (sym of_feed) (low, high, told),
+    λ other names. sym of_feed
+        ∙ names,
+  )
+  blamed_feed file (faults.Limit which value) of_feed store low high told =
+      (inr (file, (low, high, told)), λ other names. absurd names)
+  blamed_feed file faults.NotImported of_feed store low high told = (store, λ other names. absurd names)
+  blamed_feed file (faults.Malformed own line why) of_feed store low high told = absurd of_feed
+  blamed_feed file (faults.BadStyle own why part) of_feed store low high told = absurd of_feed
+  blamed_feed file (faults.BadBounds own line) of_feed store low high told = absurd of_feed
+  blamed_feed file (faults.BadQuery own line why) of_feed store low high told = absurd of_feed
+  blamed_feed file faults.Usage of_feed store low high told = absurd of_feed
+  blamed_feed file (faults.ReadFault own) of_feed store low high told = absurd of_feed
+  blamed_feed file faults.NotFormatted of_feed store low high told = absurd of_feed
+  blamed_feed file faults.NotEmpty of_feed store low high told = absurd of_feed
+  blamed_feed file faults.AlreadyImported of_feed store low high told = absurd of_feed
+  blamed_feed file faults.OldFormat of_feed store low high told = absurd of_feed
+  blamed_feed file faults.Follower of_feed store low high told = absurd of_feed
+  blamed_feed file faults.UnknownTable of_feed store low high told = absurd of_feed
+  blamed_feed file (faults.BadStore page) of_feed store low high told = absurd of_feed
+  blamed_feed file faults.WriteFault of_feed store low high told = absurd of_feed
+  blamed_feed file faults.DiskFault of_feed store low high told = absurd of_feed
+  blamed_feed file faults.OutOfMemory of_feed store low high told = absurd of_feed
+
+  -- in the middle of a file of a feed, which comes next
+  module _ (file own : ℕ) (same : own ≡ file) (high : file < terms.end) (late : terms.early → ⊥) (store : terms.store) where
+    -- a fault that names no file may come there as well as elsewhere
+    told_there : (done : Progress) (fault : Fault) → UpTo file ⊥ done → Tells terms old (at done (Some fault))
+        → Tells terms old (at_file own done fault)
+    told_there done fault up told = told_at_file file own ⊥ done fault same high late up told.blame
+        (λ other h. absurd (let two : None ≡ Some other = told.names other h in cc))
+
+    told_half : (text : List ℕ) (done : Progress) → UpTo file ⊥ done
+        → Tells terms old (within_file own (at_text text done faults.WriteFault))
+    told_half text done up = record {
+      file = file;
+      up_to = up;
+      reading = λ other e. record {
+        same = (let here : other ≡ own = cc in here ∙ same);
+        within = high;
+        unwritten = λ early. absurd (late early);
+        unbegun = λ not. absurd (not refl);
+      };
+      blame = tt;
+      names = λ other names. absurd names;
+    }
+
+    told_broken : (done : Progress) (ending : Ending) → UpTo file ⊥ done → BreaksWithin own done ending → Tells terms old ending
+    told_broken done ending up (inl is) = is_told ending _ is (told_at_file file own ⊥ done (faults.ReadFault own) same high late up
+        (omega (arith, same, up.low), omega (arith, same, high)) (λ other names. names))
+    told_broken done ending up (inr is) =
+        is_told ending _ is (told_at_file file own ⊥ done faults.OutOfMemory same high late up tt (λ other names. absurd names))
+
+    told_refused_there : (call : Option Step) (IsWhy : FlowFault → Type 0) (done : Progress) (ending : Ending)
+        → ((fault : FlowFault) → IsWhy fault → IfTold old.content (λ _. IsBadStore fault → terms.opening) × IsStepFault call fault)
+        → UpTo file ⊥ done → IsRefusedWithin own IsWhy done ending → Tells terms old ending
+    told_refused_there call IsWhy done ending why up h = is_told ending _ h.2 (told_there done (flow_fault h.0) up
+        (told_step call file ⊥ done h.0 store (why h.0 h.1).0 (why h.0 h.1).1 up))
+
+    -- a block that is taken
+    told_taking : (block : Block) (done : Progress) (ending : Ending) (Goes : Progress → Type 0) → UpTo file ⊥ done
+        → ((taken : Progress) → UpTo file ⊥ taken → Goes taken → Tells terms old ending)
+        → TakesWithin old own block done ending Goes → Tells terms old ending
+    told_taking block done ending Goes up go (inl breaks) = told_broken done ending up breaks
+    told_taking block done ending Goes up go (inr (inl is)) =
+        is_told ending _ is (told_at_file file own ⊥ done faults.DiskFault same high late up store (λ other names. absurd names))
+    told_taking block done ending Goes up go (inr (inr c)) = let step = Follow block in of_store done.store
+        (λ kept. (ending ≡ at_file own (in_doubt step kept done) faults.DiskFault)
+        ⊎ IsRefusedWithin own (IsRefusal old (state_after kept.history) step) done ending
+        ⊎ (MayTake old (state_after kept.history) step × Goes (committed step kept done)))
+        (IsRefusedWithin own (IsStepFault (Some step)) done ending ⊎ Goes done) (Tells terms old ending)
+        (λ kept is h. three (λ (is : ending ≡ at_file own (in_doubt step kept done) faults.DiskFault). is_told ending _ is
+        (told_at_file file own ⊥ (in_doubt step kept done) faults.DiskFault same high late
+        (stood file ⊥ (keeps (perhaps step kept)) done.cut done (λ e. absurd (cc)) up) store (λ other names. absurd names)))
+        (λ (why : IsRefusedWithin own (IsRefusal old (state_after kept.history) step) done ending).
+        told_refused_there (Some step) (IsRefusal old (state_after kept.history) step) done ending
+        (λ fault own. ((λ _ _ bad. bad_refuses (state_after kept.history) step fault terms.opening bad own.1), own.0)) up why)
+        (λ (c : MayTake old (state_after kept.history) step × Goes (committed step kept done)).
+        go (committed step kept done) (stood file ⊥ (keeps (with_step step kept)) done.cut done (λ e. absurd (cc)) up) c.1) h)
+        (λ is h. ⊎_elim (λ (why : IsRefusedWithin own (IsStepFault (Some step)) done ending).
+        told_refused_there (Some step) (IsStepFault (Some step)) done ending
+        (λ fault own. ((λ bytes told _. up.vague is bytes told), own)) up why)
+        (λ (c : Goes done). go done up c) h) c
+
+    -- and blocks, one after another
+    told_following : (told : List Block) (end : FeedEnd) (state : State) (done : Progress) (ending : Ending)
+        (Goes : State → Progress → Type 0) → UpTo file ⊥ done
+        → ((fault : Fault) → end ≡ stopped fault → IfTold (old.left own) (λ bytes. terms.faulty own bytes fault))
+        → (end ≡ over → (next : State) (further : Progress) → UpTo file ⊥ further → Goes next (past own further) → Tells terms old ending)
+        → FollowsTo old own told end state done ending Goes → Tells terms old ending
+    told_following [] over state done ending Goes up faulty go (inl breaks) = told_broken done ending up breaks
+    told_following [] over state done ending Goes up faulty go (inr goes) = go refl state done up goes
+    told_following [] (stopped fault) state done ending Goes up faulty go (inl breaks) = told_broken done ending up breaks
+    told_following [] (stopped fault) state done ending Goes up faulty go (inr (of_feed, is)) =
+        let blame = blamed_feed own fault of_feed store (omega (arith, same, up.low)) (omega (arith, same, high)) (faulty fault refl) in
+        is_told ending _ is (told_at_file file own ⊥ done fault same high late up blame.0 blame.1)
+    told_following [] unseen state done ending Goes up faulty go breaks = told_broken done ending up breaks
+    told_following (block ∷ later) end state done ending Goes up faulty go takes =
+        let next = after state (Follow block) in
+        let line = version_line (changes_in next) in
+        told_taking block done ending
+        (λ taken. TellsWithin own line taken ending (λ told. FollowsTo old own later end next told ending Goes)) up
+        (λ taken up tells. ⊎_elim (λ (is : ending ≡ within_file own (at_text line taken faults.WriteFault)).
+        is_told ending _ is (told_half line taken up))
+        (λ (c : FollowsTo old own later end next (plus line taken) ending Goes).
+        told_following later end next (plus line taken) ending Goes (written file ⊥ line taken up) faulty go c) tells) takes
+
   -- each end of a course tells of files that the course reads, and has something to blame
   pub comes_told : (course : Course) (file : ℕ) (quiet : Type 0) (done : Progress) (ending : Ending) → KeepsTo terms file quiet course
       → UpTo file quiet done → Comes old course done ending → Tells terms old ending
@@ -393,20 +545,8 @@ module _ (terms : Terms) (old : Before) where
   comes_told (reads {A} own Reads rest) file quiet done ending (same, high, early, faulty, accepts, later) up (inl breaks) =
       told_in A file own quiet Reads done ending same high early faulty up breaks
   comes_told (reads {A} own Reads rest) file quiet done ending (same, high, early, faulty, accepts, later) up (inr (found, told, c)) =
-      comes_told (rest found) (file + 1) quiet (past own done) ending (later found) (record {
-        low = omega (arith, up.low);
-        high = omega (arith, high);
-        read = λ other from less. ⊎_elim (λ (below : other < file). inr (up.read other from below))
-            (λ (above : file ≤ other). inl (omega (arith, above, less, same))) (cases_lt other file);
-        accepted = λ other from less. ⊎_elim (λ (below : other < file). up.accepted other from below)
-            (λ (above : file ≤ other). let here : own ≡ other = omega (arith, above, less, same) in
-            subst (λ (at : ℕ). IfTold (old.left at) (terms.accepts at)) here (λ bytes is. accepts bytes found (told bytes is)))
-            (cases_lt other file);
-        only = λ other read. ⊎_elim (λ (here : other ≡ own). (omega (arith, here, same, up.low), omega (arith, here, same)))
-            (λ (before : IsIn done.read other). ((up.only other before).0, omega (arith, (up.only other before).1))) read;
-        unwritten = up.unwritten;
-        vague = up.vague;
-      }) c
+      comes_told (rest found) (file + 1) quiet (past own done) ending (later found)
+      (read_one file own quiet done same high up (λ bytes is. accepts bytes found (told bytes is))) c
   comes_told (wants_empty rest) file quiet done ending (makes, later) up (inl is) =
       is_told ending _ is (told_at file quiet done (Some faults.DiskFault) up (terms.owns makes) (λ other names. names))
   comes_told (wants_empty rest) file quiet done ending (makes, later) up (inr (inl full)) = told_full file quiet done ending makes up full
@@ -478,6 +618,14 @@ module _ (terms : Terms) (old : Before) where
       is_told ending _ is (told_at_text file quiet own done up)
   comes_told (feeds Fits rest) file quiet done ending to up (inr (own, block, told, inr c)) =
       comes_told rest file ⊥ (plus own done) ending to (written file quiet own done up) c
+  comes_told (follows own state rest) file quiet done ending (same, high, late, store, faulty, accepts, later) up (told, end, is, c) =
+      told_following file own same high late store told end state done ending (λ next further. Comes old (rest next) further ending)
+      (loud file quiet done up)
+      (λ fault here bytes left. faulty bytes told fault
+      (subst (λ (end : FeedEnd). IsFeed own state bytes told end) here (is bytes left)))
+      (λ here next further up c. comes_told (rest next) (file + 1) ⊥ (past own further) ending (later next)
+      (read_one file own ⊥ further same high up
+      (λ bytes left. accepts bytes told (subst (λ (end : FeedEnd). IsFeed own state bytes told end) here (is bytes left)))) c) c
 
 -- files that are gathered
 module _ (terms : Terms) (change : (file : ℕ) → terms.from ≤ file → file < terms.end

@@ -3,21 +3,25 @@ use Rattle.std.proofs.Common.{◌≡◌, ◌≢◌, ◌≤◌, ◌+◌, ◌-◌,
 use Rattle.std.proofs.Common.{refl, sym, ◌∙◌, ap, subst, arith}
 use Rattle.std.proofs.lemmas.List.{append-nil, length-take-le}
 use Rattle.update_flow.specs.History.{History, state_after}
-use Rattle.update_flow.specs.State.{State, Step}
+use Rattle.delta_feed.specs.declared.block.Block.{Block}
+use Rattle.update_flow.specs.State.{State, Step, Follow, after, changes_in}
 use Rattle.run_promise.specs.declared.fault.Fault.{Fault}
 use Rattle.run_promise.specs.declared.fault.Fault.TheVariants as faults
-use Rattle.run_promise.specs.Comes.{Breaks, BreaksIn, Comes, HoldsBytes, IsRefusal, IsRefusedFor, IsStepFault, MayTake, refused, short}
-use Rattle.run_promise.specs.Comes.{unread}
+use Rattle.run_promise.specs.Comes.{Breaks, BreaksIn, BreaksWithin, Comes, FollowsTo, HoldsBytes, IsRefusal, IsRefusedFor, IsRefusedWithin}
+use Rattle.run_promise.specs.Comes.{IsStepFault, MayTake, TakesWithin, TellsWithin, refused, short, unread}
 use Rattle.run_promise.specs.Course.{Course, ends, refuses, reads, wants_empty, formats, opens, looks, commits, tells, writes, feeds}
+use Rattle.run_promise.specs.Course.{follows}
+use Rattle.run_promise.specs.Courses.{version_line}
+use Rattle.run_promise.specs.Followed.{FeedEnd, over as no_more, stopped, unseen}
 use Rattle.run_promise.specs.Keeps.{Kept, IsFit, blank, first, perhaps, whole, with_steps}
 use Rattle.run_promise.specs.Making.{reading_alone}
-use Rattle.run_promise.specs.Progress.{unused, unknown, keeps, half_made, Progress, Ending, at, begun, past, plus, with_store, made, opened}
-use Rattle.run_promise.specs.Progress.{committed, in_doubt}
+use Rattle.run_promise.specs.Progress.{unused, unknown, keeps, half_made, Progress, Ending, at, at_file, at_text, begun, past, plus}
+use Rattle.run_promise.specs.Progress.{with_store, made, opened, committed, in_doubt, within_file}
 use Rattle.run_promise.specs.FeedBlocks.{lines_in}
 use Rattle.run_promise.specs.World.{Before}
 use Rattle.run_promise.proofs.HistoryLaws.{append_more, length_more}
 use Rattle.run_promise.proofs.CourseLaws.{of_store, of_unknown, three}
-use Rattle.run_promise.proofs.LineCounts.{lines-append}
+use Rattle.run_promise.proofs.LineCounts.{lines-append, one_line}
 
 -- a course over an open store that tells each step in a line, before it goes on: so many steps are not told yet, and so many are still
 -- to be taken before it writes anything else
@@ -34,6 +38,8 @@ Counts (tells text rest) untold left = ((left ≡ 0) ⊎ (lines_in text ≤ unto
 Counts (writes Fits rest) untold left = (untold ≡ 0) × (left ≡ 0) × Counts rest untold left
 -- what a feed tells is counted by blocks
 Counts (feeds Fits rest) untold left = ⊥
+-- each line that is told of a feed tells its step, however many there are
+Counts (follows file state rest) untold left = (untold ≡ 0) × ((next : State) (left : ℕ) → Counts (rest next) 0 left)
 
 -- it opens the store first
 abbrev pub CountsOpen : (total : ℕ) → Course → Type 0
@@ -168,6 +174,23 @@ module _ (total : ℕ) (Late : Option Fault → Type 0) (before : Kept) (count :
         only = λ _ _ not. absurd (not refl);
         last = λ _. let owed = after.owed in let own = length_more after.steps step in omega (arith, own, owed);
       }
+
+  -- the same in the middle of a file
+  pub within : (half file : ℕ) (ending : Ending) → Reaches total Late before count half ending
+      → Reaches total Late before count half (within_file file ending)
+  within half file ending there = record {
+    now = there.now;
+    is = there.is;
+    from = there.from;
+    to = there.to;
+    steps = there.steps;
+    behind = there.behind;
+    fit = there.fit;
+    all = there.all;
+    sure = there.sure;
+    only = there.only;
+    last = there.last;
+  }
 
   -- before the store was opened
   pub unopened : IsFit before → count ≡ 0 → (fault : Fault)
@@ -311,6 +334,63 @@ module _ (total : ℕ) (before : Kept) where
     file_safe A file told Reads left done ending after (refused fault own told_so is) =
         reaches ending _ is (all_told left done (Some file) (Some fault) after)
 
+    -- in the middle of a file of a feed
+    broken_safe : (file left : ℕ) (done : Progress) (ending : Ending) → After 0 left done → BreaksWithin file done ending
+        → ReachesLines total before ending
+    broken_safe file left done ending after (inl is) =
+        reaches ending _ is (all_told left done (Some file) (Some (faults.ReadFault file)) after)
+    broken_safe file left done ending after (inr is) = reaches ending _ is (all_told left done (Some file) (Some faults.OutOfMemory) after)
+
+    -- a block that is taken
+    taken_safe : (file : ℕ) (block : Block) (left : ℕ) (done : Progress) (ending : Ending) (Goes : Progress → Type 0) → After 0 left done
+        → ((taken : Progress) → After 1 (left - 1) taken → Goes taken → ReachesLines total before ending)
+        → TakesWithin old file block done ending Goes → ReachesLines total before ending
+    taken_safe file block left done ending Goes after go (inl breaks) = broken_safe file left done ending after breaks
+    taken_safe file block left done ending Goes after go (inr (inl is)) =
+        reaches ending _ is (all_told left done (Some file) (Some faults.DiskFault) after)
+    taken_safe file block left done ending Goes after go (inr (inr c)) = let step = Follow block in of_store done.store
+        (λ kept. (ending ≡ at_file file (in_doubt step kept done) faults.DiskFault)
+        ⊎ IsRefusedWithin file (IsRefusal old (state_after kept.history) step) done ending
+        ⊎ (MayTake old (state_after kept.history) step × Goes (committed step kept done)))
+        (IsRefusedWithin file (IsStepFault (Some step)) done ending ⊎ Goes done) (ReachesLines total before ending)
+        (λ kept is h. three (λ (doubt : ending ≡ at_file file (in_doubt step kept done) faults.DiskFault).
+        reaches ending _ doubt (within total IsUnwritten before (lines_in done.written) 0 file (at (in_doubt step kept done)
+        (Some faults.DiskFault)) (doubted total IsUnwritten before (lines_in done.written) left step kept done after is)))
+        (λ (why : IsRefusedWithin file (IsRefusal old (state_after kept.history) step) done ending).
+        reaches ending _ why.2 (all_told left done (Some file) _ after))
+        (λ (c : MayTake old (state_after kept.history) step × Goes (committed step kept done)).
+        go (committed step kept done) (stepped total before (lines_in done.written) left step kept done after is) c.1) h)
+        (λ un h. absurd (let two : unknown ≡ keeps (whole after.now) = sym un ∙ after.is in cc)) c
+
+    -- and blocks, each told in its line
+    followed_safe : (file : ℕ) (told : List Block) (end : FeedEnd) (state : State) (left : ℕ) (done : Progress) (ending : Ending)
+        (Goes : State → Progress → Type 0) → After 0 left done
+        → ((next : State) (left : ℕ) (further : Progress) → After 0 left further → Goes next further → ReachesLines total before ending)
+        → FollowsTo old file told end state done ending Goes → ReachesLines total before ending
+    followed_safe file [] no_more state left done ending Goes after go (inl breaks) = broken_safe file left done ending after breaks
+    followed_safe file [] no_more state left done ending Goes after go (inr goes) =
+        go state left (past file done) (went_past total before (lines_in done.written) left file done after) goes
+    followed_safe file [] (stopped fault) state left done ending Goes after go (inl breaks) =
+        broken_safe file left done ending after breaks
+    followed_safe file [] (stopped fault) state left done ending Goes after go (inr (of_feed, is)) =
+        reaches ending _ is (all_told left done (Some file) (Some fault) after)
+    followed_safe file [] unseen state left done ending Goes after go breaks = broken_safe file left done ending after breaks
+    followed_safe file (block ∷ later) end state left done ending Goes after_done go takes =
+        let next = after state (Follow block) in
+        let text = version_line (changes_in next) in
+        let line = one_line (changes_in next) in
+        let none : 1 - lines_in text ≡ 0 = omega (arith, line) in
+        taken_safe file block left done ending
+        (λ taken. TellsWithin file text taken ending (λ told. FollowsTo old file later end next told ending Goes)) after_done
+        (λ taken own tells. ⊎_elim (λ (is : ending ≡ within_file file (at_text text taken faults.WriteFault)).
+        reaches ending _ is (within total IsUnwritten before (lines_in taken.written) (lines_in text) file (at_text text taken
+        faults.WriteFault) (telling total IsUnwritten before (lines_in taken.written) (lines_in text) 1 (left - 1) text taken
+        faults.WriteFault refl (inr (omega (arith, line))) own)))
+        (λ (c : FollowsTo old file later end next (plus text taken) ending Goes).
+        followed_safe file later end next (left - 1) (plus text taken) ending Goes
+        (subst (λ (untold : ℕ). After untold (left - 1) (plus text taken)) none
+        (told_lines 1 (left - 1) text taken (inr (omega (arith, line))) own)) go c) tells) takes
+
     -- each end of a course behind the opening
     comes_safe : (course : Course) (untold left : ℕ) (done : Progress) (ending : Ending) → Counts course untold left
         → After untold left done → Comes old course done ending → ReachesLines total before ending
@@ -368,6 +448,10 @@ module _ (total : ℕ) (before : Kept) where
         (let zero : untold - lines_in own ≡ 0 = omega (arith, none) in
         subst (λ (untold : ℕ). After untold left (plus own done)) zero (told_lines untold left own done (inl over) after)) c
     comes_safe (feeds Fits rest) untold left done ending counts after c = absurd counts
+    comes_safe (follows file state rest) untold left done ending (none, counts) after (told, end, is, c) =
+        followed_safe file told end state left done ending (λ next further. Comes old (rest next) further ending)
+        (subst (λ (untold : ℕ). After untold left done) none after)
+        (λ next left further own goes. comes_safe (rest next) 0 left further ending (counts next left) own goes) c
 
     -- each end of a course that begins with the opening
     pub opens_safe : (course : Course) (ending : Ending) → CountsOpen total course → IsFit before
@@ -389,6 +473,7 @@ module _ (total : ℕ) (before : Kept) where
     opens_safe (tells text rest) ending counts fit c = absurd counts
     opens_safe (writes Fits rest) ending counts fit c = absurd counts
     opens_safe (feeds Fits rest) ending counts fit c = absurd counts
+    opens_safe (follows file state rest) ending counts fit c = absurd counts
 
 module _ (total : ℕ) (old : Before) (bytes : List ℕ) (is : old.content ≡ Some bytes) where
   abbrev MadeAt : Ending → Type 0
@@ -448,3 +533,4 @@ module _ (total : ℕ) (old : Before) (bytes : List ℕ) (is : old.content ≡ S
   makes_safe (tells text rest) read ending counts c = absurd counts
   makes_safe (writes Fits rest) read ending counts c = absurd counts
   makes_safe (feeds Fits rest) read ending counts c = absurd counts
+  makes_safe (follows file state rest) read ending counts c = absurd counts

@@ -1,17 +1,22 @@
 -- What holds of every course.
-use Rattle.std.proofs.Common.{◌≡◌, ◌≤◌, ℕ, Some, List, Result, Err, ⊎_elim, inl, inr, refl, sym, subst, ◌⊎◌}
+use Rattle.std.proofs.Common.{◌≡◌, ◌≤◌, ℕ, Some, List, [], ◌∷◌, Result, Err, ⊎_elim, inl, inr, refl, sym, subst, ◌⊎◌}
 use Rattle.outside.specs.Bytes.{IfTold}
 use Rattle.run_promise.specs.declared.fault.Fault.{Fault}
 use Rattle.run_promise.specs.declared.fault.Fault.TheVariants as faults
 use Rattle.update_flow.specs.History.{state_after}
 use Rattle.update_flow.specs.Opening.{MayOpenAs}
-use Rattle.update_flow.specs.State.{State}
-use Rattle.run_promise.specs.Comes.{Breaks, BreaksIn, ByStore, Comes, HoldsBytes, IfUnknown, IfUnused, IsBroken, IsDue, IsNoStore, IsOfFile}
-use Rattle.run_promise.specs.Comes.{IsOutside, IsRefusal, IsRefusedFor, IsStepFault, MayTake, refused, short, unread}
+use Rattle.update_flow.specs.State.{State, Follow, after, changes_in}
+use Rattle.delta_feed.specs.declared.block.Block.{Block}
+use Rattle.run_promise.specs.Comes.{Breaks, BreaksIn, BreaksWithin, ByStore, Comes, FollowsTo, HoldsBytes, IfUnknown, IfUnused, IsBroken}
+use Rattle.run_promise.specs.Comes.{IsDue, IsDueFollowing, IsDueWithin, IsNoStore, IsOfFile, IsOutside, IsRefusal, IsRefusedFor}
+use Rattle.run_promise.specs.Comes.{IsRefusedWithin, IsStepFault, MayTake, TakesWithin, refused, short, unread}
 use Rattle.run_promise.specs.Course.{Course, ends, refuses, reads, wants_empty, formats, opens, looks, commits, tells, writes, feeds}
+use Rattle.run_promise.specs.Course.{follows}
+use Rattle.run_promise.specs.Courses.{version_line}
+use Rattle.run_promise.specs.Followed.{FeedEnd, over, stopped, unseen}
 use Rattle.run_promise.specs.Keeps.{Kept, first}
 use Rattle.run_promise.specs.Progress.{Standing, unused, unknown, keeps, half_made, Progress, Ending, at, at_file, at_text, past, plus}
-use Rattle.run_promise.specs.Progress.{with_store, made, opened, committed, in_doubt}
+use Rattle.run_promise.specs.Progress.{with_store, made, opened, committed, in_doubt, within_file}
 use Rattle.run_promise.specs.World.{Before}
 
 pub if_unused : (store : Standing) (P Q : Type 0) → (P → Q) → IfUnused store P → IfUnused store Q
@@ -69,6 +74,51 @@ module _ (old : Before) where
   due_in A file Reads done ending (unread is) not = blamed ending (at_file file done (faults.ReadFault file)) _ is tt not
   due_in A file Reads done ending (short is) not = blamed ending (at_file file done faults.OutOfMemory) _ is tt not
   due_in A file Reads done ending (refused fault own told is) not = (fault, own, told, is)
+
+  within_not : (file : ℕ) (done : Progress) (ending : Ending) (P : Type 0) → BreaksWithin file done ending → ¬ IsOutside ending.fault → P
+  within_not file done ending P (inl is) not = blamed ending (at_file file done (faults.ReadFault file)) P is tt not
+  within_not file done ending P (inr is) not = blamed ending (at_file file done faults.OutOfMemory) P is tt not
+
+  -- a block that is taken
+  due_within : (file : ℕ) (block : Block) (done : Progress) (ending : Ending) (Goes Due : Progress → Type 0)
+      → ((further : Progress) → Goes further → Due further) → TakesWithin old file block done ending Goes → ¬ IsOutside ending.fault
+      → IsDueWithin old file block done ending Due
+  due_within file block done ending Goes Due go (inl breaks) not = within_not file done ending _ breaks not
+  due_within file block done ending Goes Due go (inr (inl is)) not = blamed ending (at_file file done faults.DiskFault) _ is tt not
+  due_within file block done ending Goes Due go (inr (inr c)) not = by_store done.store
+      (λ kept. (ending ≡ at_file file (in_doubt (Follow block) kept done) faults.DiskFault)
+      ⊎ IsRefusedWithin file (IsRefusal old (state_after kept.history) (Follow block)) done ending
+      ⊎ (MayTake old (state_after kept.history) (Follow block) × Goes (committed (Follow block) kept done)))
+      (λ kept. IsRefusedWithin file (IsRefusal old (state_after kept.history) (Follow block)) done ending
+      ⊎ (MayTake old (state_after kept.history) (Follow block) × Due (committed (Follow block) kept done)))
+      (IsRefusedWithin file (IsStepFault (Some (Follow block))) done ending ⊎ Goes done)
+      (IsRefusedWithin file (IsStepFault (Some (Follow block))) done ending ⊎ Due done)
+      (λ kept _ h. three (λ (is : ending ≡ at_file file (in_doubt (Follow block) kept done) faults.DiskFault).
+      blamed ending (at_file file (in_doubt (Follow block) kept done) faults.DiskFault) _ is tt not)
+      (λ (why : IsRefusedWithin file (IsRefusal old (state_after kept.history) (Follow block)) done ending). inl why)
+      (λ (c : MayTake old (state_after kept.history) (Follow block) × Goes (committed (Follow block) kept done)).
+      inr (c.0, go (committed (Follow block) kept done) c.1)) h)
+      (λ _ h. ⊎_elim (λ (why : IsRefusedWithin file (IsStepFault (Some (Follow block))) done ending). inl why)
+      (λ (c : Goes done). inr (go done c)) h) c
+
+  -- and blocks, one after another
+  due_following : (file : ℕ) (told : List Block) (end : FeedEnd) (state : State) (done : Progress) (ending : Ending)
+      (Goes Due : State → Progress → Type 0) → ((next : State) (further : Progress) → Goes next further → Due next further)
+      → FollowsTo old file told end state done ending Goes → ¬ IsOutside ending.fault
+      → IsDueFollowing old file told end state done ending Due
+  due_following file [] over state done ending Goes Due go (inl breaks) not = within_not file done ending _ breaks not
+  due_following file [] over state done ending Goes Due go (inr goes) not = go state (past file done) goes
+  due_following file [] (stopped fault) state done ending Goes Due go (inl breaks) not = within_not file done ending _ breaks not
+  due_following file [] (stopped fault) state done ending Goes Due go (inr why) not = why
+  due_following file [] unseen state done ending Goes Due go breaks not = within_not file done ending _ breaks not
+  due_following file (block ∷ later) end state done ending Goes Due go takes not =
+      let next = after state (Follow block) in
+      let line = version_line (changes_in next) in
+      due_within file block done ending _ (λ taken. IsDueFollowing old file later end next (plus line taken) ending Due)
+      (λ taken tells. ⊎_elim (λ (is : ending ≡ within_file file (at_text line taken faults.WriteFault)).
+      blamed ending (within_file file (at_text line taken faults.WriteFault)) _ is tt not)
+      (λ (c : FollowsTo old file later end next (plus line taken) ending Goes).
+      due_following file later end next (plus line taken) ending Goes Due go c not) tells) takes not
 
   -- where the fault blames nothing outside, the end is the one that is due
   pub comes_due : (course : Course) (done : Progress) (ending : Ending) → Comes old course done ending → ¬ IsOutside ending.fault
@@ -133,3 +183,11 @@ module _ (old : Before) where
       blamed ending (at_text own done faults.WriteFault) _ is tt not
   comes_due (feeds Fits rest) done ending (inr (own, block, told, inr c)) not =
       (own, block, told, comes_due rest (plus own done) ending c not)
+  comes_due (follows file state rest) done ending (told, end, is, c) not = (
+    told,
+    end,
+    is,
+    due_following file told end state done ending (λ next further. Comes old (rest next) further ending)
+        (λ next further. IsDue old (rest next) further ending)
+        (λ next further own. comes_due (rest next) further ending own not) c not,
+  )

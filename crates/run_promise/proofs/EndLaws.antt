@@ -1,26 +1,30 @@
 -- What runs that end well have done, by the courses of their commands.
 use Rattle.std.proofs.Common.{◌≡◌, ◌⊎◌, ◌≤◌, ℕ, zero, suc, ◌+◌, ◌-◌, Bool, true, false, Option, Some, None, Result, Ok, List, [], ◌∷◌, ◌++◌}
-use Rattle.std.proofs.Common.{length, map, inl, inr, refl, sym, ◌∙◌, ap, subst, arith}
-use Rattle.std.proofs.lemmas.List.{append-nil}
+use Rattle.std.proofs.Common.{length, map, flat_map, inl, inr, refl, sym, ◌∙◌, ap, subst, arith}
+use Rattle.std.proofs.lemmas.List.{append-nil, map-append}
+use Rattle.delta_feed.specs.declared.block.Block.{Block}
 use Rattle.osm_base.specs.declared.values.object.Entry.{Entry}
 use Rattle.outside.specs.Bytes.{IfTold}
 use Rattle.tile_cover.specs.Table.{BoundsOf}
 use Rattle.update_flow.specs.History.{History, state_after}
-use Rattle.update_flow.specs.State.{Holding, State, Step, formatted, imported, outdated, following, Import, Append, Clear, after, changed}
+use Rattle.update_flow.specs.State.{Holding, State, Step, formatted, imported, outdated, following, Import, Append, Clear, Follow}
+use Rattle.update_flow.specs.State.{after, changed, changes_in}
 use Rattle.run_promise.specs.declared.fault.Fault.{Fault}
 use Rattle.run_promise.specs.declared.fault.Fault.TheVariants as faults
-use Rattle.run_promise.specs.Comes.{AreTold, Breaks, BreaksIn, ByStore, Comes, IsCertain, IsRefusal, IsRefusedFor, IsStepFault, MayTake}
-use Rattle.run_promise.specs.Comes.{refused, short, unread}
-use Rattle.run_promise.specs.CommandOf.{append_of, feed_of, import_of, tiles_of}
+use Rattle.run_promise.specs.Comes.{AreTold, Breaks, BreaksIn, BreaksWithin, ByStore, Comes, FollowsTo, IsCertain, IsRefusal, IsRefusedFor}
+use Rattle.run_promise.specs.Comes.{IsRefusedWithin, IsStepFault, MayTake, TakesWithin, TellsWithin, refused, short, unread}
+use Rattle.run_promise.specs.CommandOf.{append_of, feed_of, follow_of, import_of, tiles_of}
 use Rattle.run_promise.specs.Course.{Course, commits, ends, feeds, tells, writes}
 use Rattle.run_promise.specs.Courses.{IsDeltaText, IsTileText, append_to, appends, clears, course_of, feed_to, feeds_changes, feeds_full}
-use Rattle.run_promise.specs.Courses.{finished, import_into, onward, tiles_of_store, version_line}
-use Rattle.run_promise.specs.EndsWell.{AreAccepted, IsAppended, IsCleared, IsFed, IsFirstImport, TellChanges, first_block, version_lines}
+use Rattle.run_promise.specs.Courses.{finished, follow_to, follows_files, import_into, onward, tiles_of_store, version_line}
+use Rattle.run_promise.specs.EndsWell.{AreAccepted, AreFollowed, IsAppended, IsCleared, IsFed, IsFirstImport, IsFollowed, TellChanges}
+use Rattle.run_promise.specs.EndsWell.{behind_all, first_block, version_lines, versions_told}
 use Rattle.run_promise.specs.Faults.{flow_fault}
 use Rattle.run_promise.specs.Files.{IsBounds, IsChange, IsStyle}
+use Rattle.run_promise.specs.Followed.{FeedEnd, IsFeed, over, stopped, unseen}
 use Rattle.run_promise.specs.Keeps.{Kept, first, whole, with_steps}
 use Rattle.run_promise.specs.Progress.{Standing, unknown, keeps, Progress, Ending, IsIn, at, at_file, at_text, begun, committed, in_doubt}
-use Rattle.run_promise.specs.Progress.{opened, past, plus}
+use Rattle.run_promise.specs.Progress.{opened, past, plus, within_file}
 use Rattle.run_promise.specs.World.{Before}
 use Rattle.run_promise.specs.declared.files.Files.{Files}
 use Rattle.run_promise.proofs.CourseLaws.{of_unknown}
@@ -35,6 +39,35 @@ record WentOn (old : Before) (bounds : BoundsOf) (held : Holding) (file count : 
   still : (own : ℕ) → IsIn before.read own → IsIn ending.done.read own
   kept : ending.done.store ≡ keeps (whole (with_steps (map (λ change. Append bounds change) changes) history))
   told : Says changes
+
+-- these blocks of a file were taken, one after another, and told, and then that came
+record TookFile (file : ℕ) (told : List Block) (end : FeedEnd) (state : State) (history : History) (before : Progress)
+    (Goes : State → Progress → Type 0) : Type 0 where
+  all : end ≡ over
+  further : Progress
+  kept : further.store ≡ keeps (whole (with_steps (map Follow told) history))
+  read : further.read ≡ file ∷ before.read
+  written : further.written ≡ before.written ++ versions_told state told
+  goes : Goes (behind_all state told) further
+
+-- so many files from this one on were followed
+record WentThrough (old : Before) (file count : ℕ) (state : State) (history : History) (before : Progress) (ending : Ending) : Type 0 where
+  each : List (List Block)
+  many : length each ≡ count
+  accepted : AreFollowed old file state each ending.done.read
+  still : (own : ℕ) → IsIn before.read own → IsIn ending.done.read own
+  kept : ending.done.store ≡ keeps (whole (with_steps (map Follow (flat_map (λ told. told) each)) history))
+  told : ending.done.written ≡ before.written ++ versions_told state (flat_map (λ told. told) each)
+
+-- the lines that tell of blocks, and of others behind them
+versions-more : (state : State) (told others : List Block)
+    → versions_told state (told ++ others) ≡ versions_told state told ++ versions_told (behind_all state told) others
+versions-more state [] others = refl
+versions-more state (block ∷ told) others =
+    let next = after state (Follow block) in
+    let line = version_line (changes_in next) in
+    ap (λ (own : List ℕ). line ++ own) (versions-more next told others)
+    ∙ sym (append_more line (versions_told next told) (versions_told (behind_all next told) others))
 
 module _ (old : Before) (ending : Ending) (well : ending.fault ≡ None) where
   -- a run that ended well ended otherwise than so
@@ -183,6 +216,124 @@ module _ (old : Before) (ending : Ending) (well : ending.fault ≡ None) where
             ∙ append_more done.written own behind.0,
       ))
 
+  -- a block was taken, and told
+  not_within : (P : Type 0) (file : ℕ) (done : Progress) → BreaksWithin file done ending → P
+  not_within P file done (inl is) = faulty P (at_file file done (faults.ReadFault file)) (faults.ReadFault file) is refl
+  not_within P file done (inr is) = faulty P (at_file file done faults.OutOfMemory) faults.OutOfMemory is refl
+
+  took_known : (file : ℕ) (block : Block) (history : History) (done : Progress) (Goes : Progress → Type 0)
+      → (ending ≡ at_file file (in_doubt (Follow block) (whole history) done) faults.DiskFault)
+      ⊎ IsRefusedWithin file (IsRefusal old (state_after history) (Follow block)) done ending
+      ⊎ (MayTake old (state_after history) (Follow block) × Goes (committed (Follow block) (whole history) done))
+      → Goes (committed (Follow block) (whole history) done)
+  took_known file block history done Goes (inl is) =
+      faulty _ (at_file file (in_doubt (Follow block) (whole history) done) faults.DiskFault) faults.DiskFault is refl
+  took_known file block history done Goes (inr (inl (fault, why, is))) =
+      faulty _ (at_file file done (flow_fault fault)) (flow_fault fault) is refl
+  took_known file block history done Goes (inr (inr (may, goes))) = goes
+
+  took_block : (file : ℕ) (block : Block) (history : History) (done : Progress) (Goes : Progress → Type 0)
+      → done.store ≡ keeps (whole history) → TakesWithin old file block done ending Goes
+      → Goes (committed (Follow block) (whole history) done)
+  took_block file block history done Goes is (inl breaks) = not_within _ file done breaks
+  took_block file block history done Goes is (inr (inl failed)) = faulty _ (at_file file done faults.DiskFault) faults.DiskFault failed refl
+  took_block file block history done Goes is (inr (inr comes)) =
+      took_known file block history done Goes
+      (subst (λ (store : Standing). ByStore store
+      (λ kept. (ending ≡ at_file file (in_doubt (Follow block) kept done) faults.DiskFault)
+      ⊎ IsRefusedWithin file (IsRefusal old (state_after kept.history) (Follow block)) done ending
+      ⊎ (MayTake old (state_after kept.history) (Follow block) × Goes (committed (Follow block) kept done)))
+      (IsRefusedWithin file (IsStepFault (Some (Follow block))) done ending ⊎ Goes done)) is comes)
+
+  line_within : (file : ℕ) (text : List ℕ) (done : Progress) (Goes : Progress → Type 0) → TellsWithin file text done ending Goes
+      → Goes (plus text done)
+  line_within file text done Goes (inl is) = faulty _ (within_file file (at_text text done faults.WriteFault)) faults.WriteFault is refl
+  line_within file text done Goes (inr goes) = goes
+
+  -- blocks of a file were, one after another
+  took_file : (file : ℕ) (told : List Block) (end : FeedEnd) (state : State) (history : History) (done : Progress)
+      (Goes : State → Progress → Type 0) → done.store ≡ keeps (whole history) → FollowsTo old file told end state done ending Goes
+      → TookFile file told end state history done Goes
+  took_file file [] over state history done Goes keeps_it (inl breaks) = not_within _ file done breaks
+  took_file file [] over state history done Goes keeps_it (inr goes) = record {
+    all = refl;
+    further = past file done;
+    kept = keeps_it
+        ∙ ap (λ (steps : List Step). keeps (whole (record { base = history.base; steps = steps }))) (sym (append-nil history.steps));
+    read = refl;
+    written = sym (append-nil done.written);
+    goes = goes;
+  }
+  took_file file [] (stopped fault) state history done Goes keeps_it (inl breaks) = not_within _ file done breaks
+  took_file file [] (stopped fault) state history done Goes keeps_it (inr (of_feed, is)) =
+      faulty _ (at_file file done fault) fault is refl
+  took_file file [] unseen state history done Goes keeps_it breaks = not_within _ file done breaks
+  took_file file (block ∷ later) end state history done Goes keeps_it takes =
+      let next = after state (Follow block) in
+      let line = version_line (changes_in next) in
+      let taken = committed (Follow block) (whole history) done in
+      let behind : Progress → Type 0 = λ told. FollowsTo old file later end next told ending Goes in
+      let tells = took_block file block history done (λ taken. TellsWithin file line taken ending behind) keeps_it takes in
+      let so = took_file file later end next (with_steps (Follow block ∷ []) history) (plus line taken) Goes refl
+      (line_within file line taken behind tells) in
+      record {
+        all = so.all;
+        further = so.further;
+        kept = so.kept
+            ∙ ap (λ (steps : List Step). keeps (whole (record { base = history.base; steps = steps })))
+            (append_more history.steps (Follow block ∷ []) (map Follow later));
+        read = so.read;
+        written = so.written ∙ append_more done.written line (versions_told next later);
+        goes = so.goes;
+      }
+
+  -- files were
+  through_one : (file count : ℕ) (state : State) (history : History) (done : Progress) (told : List Block) (end : FeedEnd)
+      (Goes : State → Progress → Type 0) → IfTold (old.left file) (λ bytes. IsFeed file state bytes told end)
+      → (took : TookFile file told end state history done Goes)
+      → WentThrough old (file + 1) count (behind_all state told) (with_steps (map Follow told) history) took.further ending
+      → WentThrough old file (suc count) state history done ending
+  through_one file count state history done told end Goes is took later =
+      let others = flat_map (λ told. told) later.each in
+      let here : (own : ℕ) → IsIn (file ∷ done.read) own → IsIn ending.done.read own =
+      subst (λ (files : List ℕ). (own : ℕ) → IsIn files own → IsIn ending.done.read own) took.read later.still in
+      record {
+        each = told ∷ later.each;
+        many = (let many = later.many in omega (arith, many));
+        accepted = (
+          here file (inl refl),
+          (λ bytes left. subst (λ (end : FeedEnd). IsFeed file state bytes told end) took.all (is bytes left)),
+          later.accepted,
+        );
+        still = λ own read. here own (inr read);
+        kept = later.kept
+            ∙ ap (λ (steps : List Step). keeps (whole (record { base = history.base; steps = steps })))
+            (append_more history.steps (map Follow told) (map Follow others)
+            ∙ ap (λ (own : List Step). history.steps ++ own) (sym (map-append Follow told others)));
+        told = later.told
+            ∙ ap (λ (own : List ℕ). own ++ versions_told (behind_all state told) others) took.written
+            ∙ append_more done.written (versions_told state told) (versions_told (behind_all state told) others)
+            ∙ ap (λ (own : List ℕ). done.written ++ own) (sym (versions-more state told others));
+      }
+
+  went_through : (file count : ℕ) (state : State) (history : History) (done : Progress) → done.store ≡ keeps (whole history)
+      → Comes old (follows_files file count state) done ending → WentThrough old file count state history done ending
+  unfolding follows_files
+  went_through file zero state history done keeps_it is = record {
+    each = [];
+    many = refl;
+    accepted = tt;
+    still = λ own read. subst (λ (end : Ending). IsIn end.done.read own) (sym is) read;
+    kept = ap (λ (end : Ending). end.done.store) is ∙ keeps_it
+        ∙ ap (λ (steps : List Step). keeps (whole (record { base = history.base; steps = steps }))) (sym (append-nil history.steps));
+    told = ap (λ (end : Ending). end.done.written) is ∙ sym (append-nil done.written);
+  }
+  went_through file (suc count) state history done keeps_it (told, end, is, comes) =
+      let Goes : State → Progress → Type 0 = λ next further. Comes old (follows_files (file + 1) count next) further ending in
+      let took = took_file file told end state history done Goes keeps_it comes in
+      through_one file count state history done told end Goes is took
+      (went_through (file + 1) count (behind_all state told) (with_steps (map Follow told) history) took.further took.kept took.goes)
+
   module _ (kept : Kept) (cut : ℕ) (low : kept.least ≤ cut) (high : cut ≤ kept.most) where
     abbrev stood : History
     stood = first cut kept.history
@@ -261,6 +412,28 @@ module _ (old : Before) (ending : Ending) (well : ending.fault ≡ None) where
           );
         }
 
+    -- a following
+    all_followed : (files : Files) (state : State) → state_after stood ≡ state
+        → Comes old (follows_files files.first files.count state) done ending → IsFollowed old files kept ending
+    all_followed files state was comes =
+        let went = went_through files.first files.count state stood done refl comes in
+        record {
+          cut = cut;
+          stood = record { from = low; to = high };
+          each = went.each;
+          many = went.many;
+          accepted = subst (λ (own : State). AreFollowed old files.first own went.each ending.done.read) (sym was) went.accepted;
+          kept = went.kept;
+          told = subst (λ (own : State). ending.done.written ≡ versions_told own (flat_map (λ told. told) went.each)) (sym was) went.told;
+        }
+
+    followed_by : (files : Files) (state : State) → state_after stood ≡ state → Comes old (follow_to files state) done ending
+        → IsFollowed old files kept ending
+    followed_by files formatted was comes = all_followed files formatted was comes
+    followed_by files (imported held) was is = faulty _ (at done (Some faults.AlreadyImported)) faults.AlreadyImported is refl
+    followed_by files (outdated held) was is = faulty _ (at done (Some faults.AlreadyImported)) faults.AlreadyImported is refl
+    followed_by files (following held) was comes = all_followed files (following held) was comes
+
     -- an import
     imported_by : (files : Files) (buckets : ℕ) (state : State) → state_after stood ≡ state
         → Comes old (import_into files buckets state) done ending → IsFirstImport old files buckets kept ending
@@ -317,7 +490,8 @@ module _ (old : Before) (ending : Ending) (well : ending.fault ≡ None) where
         }
 
   pub appended_well : (store : List ℕ) (files : Files) (ahead workers : ℕ) (kept : Kept)
-      → Comes old (course_of (append_of store files ahead workers)) (begun (keeps kept) kept.least) ending → IsAppended old files kept ending
+      → Comes old (course_of (append_of store files ahead workers)) (begun (keeps kept) kept.least) ending
+      → IsAppended old files kept ending
   appended_well store files ahead workers kept (inl breaks) = breaks_not _ (begun (keeps kept) kept.least) breaks
   appended_well store files ahead workers kept (inr (cut, low, high, comes)) =
       appended_by kept cut low high files (state_after (first cut kept.history)) refl comes
@@ -327,6 +501,12 @@ module _ (old : Before) (ending : Ending) (well : ending.fault ≡ None) where
   fed_well store files full workers kept (inl breaks) = breaks_not _ (begun (keeps kept) kept.least) breaks
   fed_well store files full workers kept (inr (cut, low, high, comes)) =
       fed_by kept cut low high files full (state_after (first cut kept.history)) refl comes
+
+  pub followed_well : (store : List ℕ) (files : Files) (kept : Kept)
+      → Comes old (course_of (follow_of store files)) (begun (keeps kept) kept.least) ending → IsFollowed old files kept ending
+  followed_well store files kept (inl breaks) = breaks_not _ (begun (keeps kept) kept.least) breaks
+  followed_well store files kept (inr (cut, low, high, comes)) =
+      followed_by kept cut low high files (state_after (first cut kept.history)) refl comes
 
   pub imported_well : (store : List ℕ) (files : Files) (buckets workers : ℕ) (kept : Kept)
       → Comes old (course_of (import_of store files buckets workers)) (begun (keeps kept) kept.least) ending

@@ -10,7 +10,8 @@ use Rattle.osm_base.specs.declared.values.row.Delta.{Delta}
 use Rattle.osm_base.specs.declared.values.row.Row.{Row}
 use Rattle.osm_base.specs.map.Spots.{SpotOf, TableMap}
 use Rattle.delta_feed.specs.Text.{changes_at, del_line, delta_line, delta_text, entry_lines, full_line, full_text, kind_letter}
-use Rattle.delta_feed.specs.Text.{lines_behind, more_line, more_lines, row_lines, rows_at, set_line, set_lines, style_line, style_lines, text_of}
+use Rattle.delta_feed.specs.Text.{lines_behind, more_line, more_lines, row_lines, rows_at, set_line, set_lines, style_line, style_lines}
+use Rattle.delta_feed.specs.Text.{text_of}
 use Rattle.delta_feed.specs.declared.hexes.TheConstants.{LINE_BYTES}
 use Rattle.delta_feed.specs.declared.words.TheConstants.{SPACE}
 use Rattle.run_promise.specs.FeedBlocks.{IsFeedBlock, IsInner, lines_in}

@@ -3,14 +3,13 @@ use Rattle.std.proofs.Common.{◌≡◌, true, Some, inl, inr}
 use Rattle.update_flow.specs.History.{state_after}
 use Rattle.update_flow.specs.State.{Following, State, following, follows, formatted, imported, outdated}
 use Rattle.run_promise.specs.declared.fault.Fault.TheVariants as faults
-use Rattle.run_promise.specs.Causes.{OpensStore}
 use Rattle.run_promise.specs.Comes.{Comes}
 use Rattle.run_promise.specs.CommandOf.{CommandOf, points_of, lines_of, init_of, import_of, append_of, export_of, tiles_of, query_of}
-use Rattle.run_promise.specs.CommandOf.{feed_of, serve_of, replay_of, migrate_of, check_of, demo_of}
+use Rattle.run_promise.specs.CommandOf.{feed_of, follow_of, serve_of, replay_of, migrate_of, check_of, demo_of}
 use Rattle.run_promise.specs.Course.{Course, opens}
-use Rattle.run_promise.specs.Courses.{append_to, checks, course_of, export_from, feed_to, import_into, migrates, query_from, serve_to}
+use Rattle.run_promise.specs.Courses.{append_to, checks, course_of, feed_to, import_into, migrates, query_from, serve_to}
 use Rattle.run_promise.specs.Courses.{tiles_of_store}
-use Rattle.run_promise.specs.Followers.{LeavesFollower}
+use Rattle.run_promise.specs.Followers.{LeavesFollower, RefusesFollowers}
 use Rattle.run_promise.specs.Keeps.{Kept, first}
 use Rattle.run_promise.specs.Progress.{keeps, Progress, Ending, at, begun, opened}
 use Rattle.run_promise.specs.World.{Before}
@@ -33,12 +32,12 @@ opened_left rest old kept ending refused (inr (cut, low, high, comes)) =
       cut,
       low,
       high,
-      if_follower (state_after (first cut kept.history)) (ending ≡ at done (Some faults.Follower)) (λ state. Comes old (rest state) done ending)
-          (λ held is. refused held done is) comes,
+      if_follower (state_after (first cut kept.history)) (ending ≡ at done (Some faults.Follower))
+          (λ state. Comes old (rest state) done ending) (λ held is. refused held done is) comes,
     )
 
--- each command that opens its store goes so
-pub leaves_follower : (command : CommandOf) (old : Before) (kept : Kept) (ending : Ending) → OpensStore command
+-- each command that opens its store goes so, but for the two that want one of a follower
+pub leaves_follower : (command : CommandOf) (old : Before) (kept : Kept) (ending : Ending) → RefusesFollowers command
     → Comes old (course_of command) (begun (keeps kept) kept.least) ending → LeavesFollower kept ending
 leaves_follower (points_of key files) old kept ending is comes = absurd (cc)
 leaves_follower (lines_of key files) old kept ending is comes = absurd (cc)
@@ -49,8 +48,8 @@ leaves_follower (append_of store files ahead workers) old kept ending is comes =
     opened_left (append_to files) old kept ending (λ held done is. is) comes
 leaves_follower (feed_of store files full workers) old kept ending is comes =
     opened_left (feed_to files full) old kept ending (λ held done is. is) comes
-leaves_follower (export_of store table) old kept ending is comes =
-    opened_left (export_from table) old kept ending (λ held done is. is) comes
+leaves_follower (follow_of store files) old kept ending is comes = absurd is
+leaves_follower (export_of store table) old kept ending is comes = absurd is
 leaves_follower (tiles_of store least clear) old kept ending is comes =
     opened_left (tiles_of_store least clear) old kept ending (λ held done is. is) comes
 leaves_follower (query_of store files) old kept ending is comes =

@@ -7,13 +7,13 @@ use Rattle.run_promise.specs.declared.fault.Fault.TheVariants as faults
 use Rattle.run_promise.specs.Causes.{WantsNewFormat}
 use Rattle.run_promise.specs.Comes.{Comes}
 use Rattle.run_promise.specs.CommandOf.{CommandOf, points_of, lines_of, init_of, import_of, append_of, export_of, tiles_of, query_of}
-use Rattle.run_promise.specs.CommandOf.{feed_of, serve_of, replay_of, migrate_of, check_of, demo_of}
+use Rattle.run_promise.specs.CommandOf.{feed_of, follow_of, serve_of, replay_of, migrate_of, check_of, demo_of}
 use Rattle.run_promise.specs.Course.{Course, opens, tells, ends}
-use Rattle.run_promise.specs.Courses.{append_to, checks, course_of, export_from, feed_to, format_line, import_into, migrates, query_from}
-use Rattle.run_promise.specs.Courses.{serve_to, tiles_of_store}
+use Rattle.run_promise.specs.Courses.{append_to, checks, course_of, export_from, feed_to, follow_to, format_line, import_into, migrates}
+use Rattle.run_promise.specs.Courses.{query_from, serve_to, tiles_of_store}
 use Rattle.run_promise.specs.Faults.{flow_fault}
 use Rattle.run_promise.specs.Keeps.{Kept, first, whole, with_steps}
-use Rattle.run_promise.specs.Migrating.{IfOld, IsMigrated, IsMigratedFrom, LeavesOld, had, got}
+use Rattle.run_promise.specs.Migrating.{IfOld, IsMigrated, IsMigratedFrom, LeavesOld, had, got, old_fault}
 use Rattle.run_promise.specs.Progress.{keeps, Progress, Ending, at, at_text, begun, committed, in_doubt, opened}
 use Rattle.run_promise.specs.World.{Before}
 use Rattle.run_promise.proofs.HistoryLaws.{state-more}
@@ -25,41 +25,46 @@ if_old (following held) P C old comes = tt
 if_old (outdated held) P C old comes = old held comes
 
 -- a run that opens its store and goes on so, which refuses the old format at once
-opened_left : (rest : State → Course) (old : Before) (kept : Kept) (ending : Ending)
-    → ((held : Holding) (done : Progress) → Comes old (rest (outdated held)) done ending → ending ≡ at done (Some faults.OldFormat))
-    → Comes old (opens rest) (begun (keeps kept) kept.least) ending → LeavesOld kept ending
-opened_left rest old kept ending refused (inl breaks) = inl breaks
-opened_left rest old kept ending refused (inr (cut, low, high, comes)) =
+opened_left : (command : CommandOf) (rest : State → Course) (old : Before) (kept : Kept) (ending : Ending)
+    → ((held : Holding) (done : Progress) → Comes old (rest (outdated held)) done ending → ending ≡ at done (Some (old_fault command)))
+    → Comes old (opens rest) (begun (keeps kept) kept.least) ending → LeavesOld command kept ending
+opened_left command rest old kept ending refused (inl breaks) = inl breaks
+opened_left command rest old kept ending refused (inr (cut, low, high, comes)) =
     let done = opened kept cut (begun (keeps kept) kept.least) in
     inr (
       cut,
       low,
       high,
-      if_old (state_after (first cut kept.history)) (ending ≡ at done (Some faults.OldFormat)) (λ state. Comes old (rest state) done ending)
-          (λ held is. refused held done is) comes,
+      if_old (state_after (first cut kept.history)) (ending ≡ at done (Some (old_fault command)))
+          (λ state. Comes old (rest state) done ending) (λ held is. refused held done is) comes,
     )
 
 -- each command that opens its store goes so, but for the one that migrates it
 pub leaves_old : (command : CommandOf) (old : Before) (kept : Kept) (ending : Ending) → WantsNewFormat command
-    → Comes old (course_of command) (begun (keeps kept) kept.least) ending → LeavesOld kept ending
+    → Comes old (course_of command) (begun (keeps kept) kept.least) ending → LeavesOld command kept ending
 leaves_old (points_of key files) old kept ending wants comes = absurd (cc)
 leaves_old (lines_of key files) old kept ending wants comes = absurd (cc)
 leaves_old (init_of store) old kept ending wants comes = absurd (cc)
 leaves_old (import_of store files buckets workers) old kept ending wants comes =
-    opened_left (import_into files buckets) old kept ending (λ held done is. is) comes
+    opened_left (import_of store files buckets workers) (import_into files buckets) old kept ending (λ held done is. is) comes
 leaves_old (append_of store files ahead workers) old kept ending wants comes =
-    opened_left (append_to files) old kept ending (λ held done is. is) comes
+    opened_left (append_of store files ahead workers) (append_to files) old kept ending (λ held done is. is) comes
 leaves_old (feed_of store files full workers) old kept ending wants comes =
-    opened_left (feed_to files full) old kept ending (λ held done is. is) comes
-leaves_old (export_of store table) old kept ending wants comes = opened_left (export_from table) old kept ending (λ held done is. is) comes
+    opened_left (feed_of store files full workers) (feed_to files full) old kept ending (λ held done is. is) comes
+leaves_old (follow_of store files) old kept ending wants comes =
+    opened_left (follow_of store files) (follow_to files) old kept ending (λ held done is. is) comes
+leaves_old (export_of store table) old kept ending wants comes =
+    opened_left (export_of store table) (export_from table) old kept ending (λ held done is. is) comes
 leaves_old (tiles_of store least clear) old kept ending wants comes =
-    opened_left (tiles_of_store least clear) old kept ending (λ held done is. is) comes
-leaves_old (query_of store files) old kept ending wants comes = opened_left (query_from files) old kept ending (λ held done is. is) comes
+    opened_left (tiles_of store least clear) (tiles_of_store least clear) old kept ending (λ held done is. is) comes
+leaves_old (query_of store files) old kept ending wants comes =
+    opened_left (query_of store files) (query_from files) old kept ending (λ held done is. is) comes
 leaves_old (serve_of store files workers readers) old kept ending wants comes =
-    opened_left (serve_to files readers) old kept ending (λ held done is. is) comes
+    opened_left (serve_of store files workers readers) (serve_to files readers) old kept ending (λ held done is. is) comes
 leaves_old (replay_of store files workers) old kept ending wants comes = absurd (cc)
 leaves_old (migrate_of store) old kept ending wants comes = absurd wants
-leaves_old (check_of store) old kept ending wants comes = opened_left checks old kept ending (λ held done is. is) comes
+leaves_old (check_of store) old kept ending wants comes =
+    opened_left (check_of store) checks old kept ending (λ held done is. is) comes
 leaves_old (demo_of count store workers) old kept ending wants comes = absurd (cc)
 
 -- a run that ended well ended otherwise than so

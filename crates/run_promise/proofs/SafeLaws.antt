@@ -8,17 +8,18 @@ use Rattle.map_query.specs.declared.query.Query.{Query}
 use Rattle.tile_cover.specs.Table.{BoundsOf}
 use Rattle.demo_map.specs.Demo.{demo_first, demo_input, demo_second}
 use Rattle.demo_map.specs.Style.{DEMO_STYLE, demo_bounds, demo_style}
-use Rattle.update_flow.specs.State.{Holding, State, Step, formatted, imported, outdated, following, changed, fresh}
+use Rattle.update_flow.specs.State.{Following, Holding, State, Step, formatted, imported, outdated, following, changed, fresh}
 use Rattle.run_promise.specs.declared.fault.Fault.{Fault}
 use Rattle.run_promise.specs.declared.fault.Fault.TheVariants as faults
 use Rattle.run_promise.specs.declared.files.Files.{Files}
 use Rattle.outside.specs.Inputs.{FilesView}
 use Rattle.run_promise.specs.CommandOf.{CommandOf, points_of, lines_of, init_of, import_of, append_of, export_of, tiles_of, query_of}
-use Rattle.run_promise.specs.CommandOf.{feed_of, serve_of, replay_of, migrate_of, check_of, demo_of, Use, new_store, old_store, use_of}
+use Rattle.run_promise.specs.CommandOf.{feed_of, follow_of, serve_of, replay_of, migrate_of, check_of, demo_of, Use, new_store, old_store}
+use Rattle.run_promise.specs.CommandOf.{use_of}
 use Rattle.run_promise.specs.Comes.{Comes}
 use Rattle.run_promise.specs.Course.{Course, tells}
 use Rattle.run_promise.specs.Courses.{Onward, growing, telling, summing, append_to, appends, clears, course_of, export_from, exports}
-use Rattle.run_promise.specs.Courses.{finished, import_into}
+use Rattle.run_promise.specs.Courses.{exports_followed, finished, follow_to, follows_files, import_into}
 use Rattle.run_promise.specs.Courses.{checks, migrates, onward, query_from, serve_to, serves, tiles_of_store, version_line}
 use Rattle.run_promise.specs.Keeps.{Kept, IsFit, IsOneOf, blank, whole}
 use Rattle.run_promise.specs.Leaves.{IsPast, Leaves, StandsOn}
@@ -32,28 +33,31 @@ use Rattle.run_promise.proofs.CourseKeeps.{opens_safe}
 use Rattle.run_promise.proofs.FeedKeeps.{IsLate, feed_safe, takes_blocks, told_in}
 use Rattle.run_promise.proofs.LineCounts.{lines-grew, one_line}
 
--- every command but the feed tells its steps in lines
+-- every command but the feed tells so many steps in lines at most, and a follower as many as there are
 abbrev IsFeed : CommandOf → Type 0
 IsFeed (feed_of store files full workers) = Unit {0}
+IsFeed (follow_of store files) = Unit {0}
 IsFeed _ = ⊥
 
 by_command : (P : CommandOf → Type 0)
     → ((store : List ℕ) (files : Files) (full : Bool) (workers : ℕ) → P (feed_of store files full workers))
+    → ((store : List ℕ) (files : Files) → P (follow_of store files))
     → ((command : CommandOf) → ¬ IsFeed command → P command) → (command : CommandOf) → P command
-by_command P feed lines (feed_of store files full workers) = feed store files full workers
-by_command P feed lines (points_of key files) = lines (points_of key files) (λ no_feed. no_feed)
-by_command P feed lines (lines_of key files) = lines (lines_of key files) (λ no_feed. no_feed)
-by_command P feed lines (init_of store) = lines (init_of store) (λ no_feed. no_feed)
-by_command P feed lines (import_of store files buckets workers) = lines (import_of store files buckets workers) (λ no_feed. no_feed)
-by_command P feed lines (append_of store files ahead workers) = lines (append_of store files ahead workers) (λ no_feed. no_feed)
-by_command P feed lines (export_of store table) = lines (export_of store table) (λ no_feed. no_feed)
-by_command P feed lines (tiles_of store least clear) = lines (tiles_of store least clear) (λ no_feed. no_feed)
-by_command P feed lines (query_of store files) = lines (query_of store files) (λ no_feed. no_feed)
-by_command P feed lines (serve_of store files workers readers) = lines (serve_of store files workers readers) (λ no_feed. no_feed)
-by_command P feed lines (replay_of store files workers) = lines (replay_of store files workers) (λ no_feed. no_feed)
-by_command P feed lines (migrate_of store) = lines (migrate_of store) (λ no_feed. no_feed)
-by_command P feed lines (check_of store) = lines (check_of store) (λ no_feed. no_feed)
-by_command P feed lines (demo_of count store workers) = lines (demo_of count store workers) (λ no_feed. no_feed)
+by_command P feed follow lines (feed_of store files full workers) = feed store files full workers
+by_command P feed follow lines (follow_of store files) = follow store files
+by_command P feed follow lines (points_of key files) = lines (points_of key files) (λ no_feed. no_feed)
+by_command P feed follow lines (lines_of key files) = lines (lines_of key files) (λ no_feed. no_feed)
+by_command P feed follow lines (init_of store) = lines (init_of store) (λ no_feed. no_feed)
+by_command P feed follow lines (import_of store files buckets workers) = lines (import_of store files buckets workers) (λ no_feed. no_feed)
+by_command P feed follow lines (append_of store files ahead workers) = lines (append_of store files ahead workers) (λ no_feed. no_feed)
+by_command P feed follow lines (export_of store table) = lines (export_of store table) (λ no_feed. no_feed)
+by_command P feed follow lines (tiles_of store least clear) = lines (tiles_of store least clear) (λ no_feed. no_feed)
+by_command P feed follow lines (query_of store files) = lines (query_of store files) (λ no_feed. no_feed)
+by_command P feed follow lines (serve_of store files workers readers) = lines (serve_of store files workers readers) (λ no_feed. no_feed)
+by_command P feed follow lines (replay_of store files workers) = lines (replay_of store files workers) (λ no_feed. no_feed)
+by_command P feed follow lines (migrate_of store) = lines (migrate_of store) (λ no_feed. no_feed)
+by_command P feed follow lines (check_of store) = lines (check_of store) (λ no_feed. no_feed)
+by_command P feed follow lines (demo_of count store workers) = lines (demo_of count store workers) (λ no_feed. no_feed)
 
 module _ (now : Kept) (cut : ℕ) (steps : List Step) (fault : Option Fault) (earlier later : List ℕ) where
   abbrev InLines : CommandOf → Type 0
@@ -61,6 +65,7 @@ module _ (now : Kept) (cut : ℕ) (steps : List Step) (fault : Option Fault) (ea
 
   by_lines : (command : CommandOf) → ¬ IsFeed command → InLines command → AcknowledgesBy command now cut steps fault earlier later
   by_lines (feed_of store files full workers) not told = absurd (not tt)
+  by_lines (follow_of store files) not told = absurd (not tt)
   by_lines (points_of key files) not told = told
   by_lines (lines_of key files) not told = told
   by_lines (init_of store) not told = told
@@ -89,6 +94,21 @@ acknowledges command before ending not there earlier later grew =
       only = λ some write disk. let owed = there.only some write disk in omega (arith, owed, all);
       last = λ is. let owed = there.last is in omega (arith, owed, all);
     })
+
+-- of a follower each line that was written may tell a step
+takes_lines : (store : List ℕ) (files : Files) (before : Kept) (ending : Ending)
+    → (there : ReachesLines (lines_in ending.done.written + lines_in ending.writing) before ending)
+    → (earlier later : List ℕ) → GrewBy ending.done.written ending.writing earlier later
+    → AcknowledgesBy (follow_of store files) there.now ending.done.cut there.steps ending.fault earlier later
+takes_lines store files before ending there earlier later grew =
+    let own = lines-grew ending.done.written ending.writing earlier later grew in
+    let all = own.1 in
+    let half = own.2 in
+    record {
+      kept = λ told most few. there.sure told (omega (arith, few, all, half)) (omega (arith, few, all, half));
+      only = λ some write disk. let owed = there.only some write disk in omega (arith, owed, all);
+      last = λ is. let owed = there.last is in omega (arith, owed, all);
+    }
 
 module _ (total : ℕ) (Late : Option Fault → Type 0) (command : CommandOf) (before : Kept) (count half : ℕ) (ending : Ending)
     (there : Reaches total Late before count half ending)
@@ -155,6 +175,28 @@ goes_fed store files full workers before fault old new seen fit (ending, same, c
     subst (λ (fault : Option Fault). Preserves (feed_of store files full workers) before old new fault) same
     (preserves so.total IsLate (feed_of store files full workers) before (told_in full so.blocks) so.half ending so.there
     (takes_blocks full before ending so) old new seen comes leaves)
+
+-- files of a feed that are followed
+files_count : (file count : ℕ) (state : State) (left : ℕ) → Counts (follows_files file count state) 0 left
+unfolding follows_files
+files_count file zero state left = tt
+files_count file (suc count) state left = (refl, λ next left. files_count (file + 1) count next left)
+
+follow_counts : (total : ℕ) (files : Files) (state : State) → Counts (follow_to files state) 0 total
+follow_counts total files formatted = files_count files.first files.count formatted total
+follow_counts total files (imported held) = refl
+follow_counts total files (outdated held) = refl
+follow_counts total files (following held) = files_count files.first files.count (following held) total
+
+goes_followed : (store : List ℕ) (files : Files) (before : Kept) (fault : Option Fault) (old new : World) (seen : FilesView) → IsFit before
+    → GoesBy (course_of (follow_of store files)) (begun (keeps before) before.least) fault old (with_files seen new)
+    → Preserves (follow_of store files) before old new fault
+goes_followed store files before fault old new seen fit (ending, same, comes, leaves) =
+    let total = lines_in ending.done.written + lines_in ending.writing in
+    let there = opens_safe total before (remembered old) (course_of (follow_of store files)) ending (follow_counts total files) fit comes in
+    subst (λ (fault : Option Fault). Preserves (follow_of store files) before old new fault) same
+    (preserves total IsUnwritten (follow_of store files) before (lines_in ending.done.written) (lines_in ending.writing) ending there
+    (takes_lines store files before ending there) old new seen comes leaves)
 
 nothing : (earlier later : Option (List ℕ)) → BothKnown earlier later (GrewBy [] [])
     → BothKnown earlier later (λ earlier later. later ≡ earlier)
@@ -262,17 +304,22 @@ opens_first (append_of store files ahead workers) not is = into
     into (outdated held) = refl
     into (following held) = refl
 opens_first (feed_of store files full workers) not is = absurd (not tt)
+opens_first (follow_of store files) not is = absurd (not tt)
 opens_first (export_of store table) not is = into
   where
     from : (held : Holding) (found : Option ℕ) → Counts (exports held found) 0 0
     from held None = refl
     from held (Some number) = (refl, (refl, refl, tt))
 
+    followed : (held : Following) (found : Option ℕ) → Counts (exports_followed held found) 0 0
+    followed held None = refl
+    followed held (Some number) = (refl, (refl, refl, tt))
+
     into : (state : State) → Counts (export_from table state) 0 0
     into formatted = refl
     into (imported held) = from held (table_of held.style.tables table)
     into (outdated held) = refl
-    into (following held) = refl
+    into (following held) = followed held (table_of held.style.tables table)
 opens_first (tiles_of store least clear) not is = into
   where
     behind : (clear : Bool) → Counts (clears clear) 0 0
@@ -336,6 +383,7 @@ makes_first (init_of store) is = (inl refl, tt)
 makes_first (import_of store files buckets workers) is = absurd (cc)
 makes_first (append_of store files ahead workers) is = absurd (cc)
 makes_first (feed_of store files full workers) is = absurd (cc)
+makes_first (follow_of store files) is = absurd (cc)
 makes_first (export_of store table) is = absurd (cc)
 makes_first (tiles_of store least clear) is = absurd (cc)
 makes_first (query_of store files) is = absurd (cc)
@@ -389,6 +437,7 @@ KeepsBy old new fault seen command = use_of command ≡ old_store → (before : 
 keeps_by : (old new : World) (fault : Option Fault) (seen : FilesView) (command : CommandOf) → KeepsBy old new fault seen command
 keeps_by old new fault seen = by_command (KeepsBy old new fault seen)
     (λ store files full workers is before fit goes. goes_fed store files full workers before fault old new seen fit goes)
+    (λ store files is before fit goes. goes_followed store files before fault old new seen fit goes)
     (λ command not is before fit goes. goes_safe command not before fault old new seen (opens_first command not is) fit goes)
 
 -- and of one that makes it
@@ -400,6 +449,7 @@ MakesBy old new fault seen command = use_of command ≡ new_store → old.disk.c
 makes_by : (old new : World) (fault : Option Fault) (seen : FilesView) (command : CommandOf) → MakesBy old new fault seen command
 makes_by old new fault seen = by_command (MakesBy old new fault seen)
     (λ store files full workers is. absurd (cc))
+    (λ store files is. absurd (cc))
     (λ command not is empty goes. goes_made command not fault old new seen (makes_first command is) empty goes)
 
 pub runs_safe : (command : CommandOf) (asks : List ℕ → Type 0) (old new : World) (fault : Option Fault) → Runs command asks old new fault

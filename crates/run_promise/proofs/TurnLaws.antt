@@ -9,16 +9,20 @@ use Rattle.run_promise.specs.declared.files.Files.{Files}
 use Rattle.run_promise.specs.Causes.{Cause, HasStore, MakesStore, OpensStore, WantsNewFormat}
 use Rattle.run_promise.specs.Comes.{Comes}
 use Rattle.run_promise.specs.CommandOf.{CommandOf, points_of, lines_of, init_of, import_of, append_of, export_of, tiles_of, query_of}
-use Rattle.run_promise.specs.CommandOf.{feed_of, serve_of, replay_of, migrate_of, check_of, demo_of, files_of, Use, no_store, new_store}
-use Rattle.run_promise.specs.CommandOf.{old_store, use_of}
+use Rattle.run_promise.specs.CommandOf.{feed_of, follow_of, serve_of, replay_of, migrate_of, check_of, demo_of, files_of, Use}
+use Rattle.run_promise.specs.CommandOf.{no_store, new_store, old_store, use_of}
 use Rattle.style_read.specs.Style.{table_of}
 use Rattle.map_query.specs.declared.query.Query.{Query}
 use Rattle.tile_cover.specs.Table.{BoundsOf}
+use Rattle.delta_feed.specs.declared.block.Block.{Block}
 use Rattle.update_flow.specs.State.{Holding, State, formatted, imported, outdated, following, changed, fresh}
 use Rattle.run_promise.specs.Course.{Course}
-use Rattle.run_promise.specs.Courses.{append_to, appends, checks, course_of, export_from, exports, feed_to, feeds_changes, feeds_full}
-use Rattle.run_promise.specs.Courses.{finished, import_into, migrates, onward, query_from, replay_course, serve_to, serves, telling, tiles_of_store}
+use Rattle.run_promise.specs.Courses.{append_to, appends, checks, course_of, export_from, exports, exports_followed, feed_to, feeds_changes}
+use Rattle.run_promise.specs.Courses.{feeds_full, follow_to, follows_files}
+use Rattle.run_promise.specs.Courses.{finished, import_into, migrates, onward, query_from, replay_course, serve_to, serves, telling}
+use Rattle.run_promise.specs.Courses.{tiles_of_store}
 use Rattle.run_promise.specs.Files.{IsChange}
+use Rattle.run_promise.specs.Followed.{IsFeed, over as no_more, stopped}
 use Rattle.run_promise.specs.InTurn.{FaultNames, IsInTurn}
 use Rattle.run_promise.specs.Leaves.{HasCause}
 use Rattle.run_promise.specs.Progress.{Standing, unused, unknown, Progress, Ending, begun}
@@ -118,6 +122,26 @@ module _ (terms : Terms) (least : ℕ) (change : (file : ℕ) → least ≤ file
         λ found. (store, feeds_to bounds (changed bounds found held) (file + 1) count ⊥ (omega (arith, low)) (omega (arith, high))),
       )
 
+-- files of a feed that are followed, one after another
+module _ (terms : Terms) (late : terms.early → ⊥) (store : terms.store)
+    (faulty : (file : ℕ) (state : State) (bytes : List ℕ) (told : List Block) (fault : Fault) → IsFeed file state bytes told (stopped fault)
+    → terms.faulty file bytes fault)
+    (accepts : (file : ℕ) (state : State) (bytes : List ℕ) (told : List Block) → IsFeed file state bytes told no_more
+    → terms.accepts file bytes) where
+  follows_to : (file count : ℕ) (quiet : Type 0) (state : State) → file + count ≤ terms.end
+      → KeepsTo terms file quiet (follows_files file count state)
+  unfolding follows_files
+  follows_to file zero quiet state high = tt
+  follows_to file (suc count) quiet state high = (
+    refl,
+    omega (arith, high),
+    late,
+    store,
+    faulty file state,
+    accepts file state,
+    λ next. follows_to (file + 1) count ⊥ next (omega (arith, high)),
+  )
+
 -- a command over a store that is there
 has_store : old_store ≢ no_store
 has_store = λ e. absurd (cc)
@@ -191,10 +215,27 @@ feed_to_store store files full workers (imported held) one = (
     behind false rest later = later (Unit {0})
     behind true rest later = (has_store, later ⊥)
 
+all_followed : (store : List ℕ) (files : Files) (state : State)
+    → KeepsTo (terms_of (follow_of store files)) files.first (Unit {0}) (follows_files files.first files.count state)
+all_followed store files state =
+    follows_to (terms_of (follow_of store files)) (λ e. e) has_store (λ file state bytes told fault is. (state, told, is))
+    (λ file state bytes told is. (state, told, is)) files.first files.count (Unit {0}) state (omega arith)
+
+follow_to_store : (store : List ℕ) (files : Files) (state : State)
+    → KeepsTo (terms_of (follow_of store files)) files.first (Unit {0}) (follow_to files state)
+follow_to_store store files formatted = all_followed store files formatted
+follow_to_store store files (imported held) = has_store
+follow_to_store store files (outdated held) = has_store
+follow_to_store store files (following held) = all_followed store files (following held)
+
 export_to : (store table : List ℕ) (state : State) → KeepsTo (terms_of (export_of store table)) 0 (Unit {0}) (export_from table state)
 export_to store table formatted = has_store
 export_to store table (outdated held) = refl
-export_to store table (following held) = refl
+export_to store table (following held) = followed_to (table_of held.style.tables table)
+  where
+    followed_to : (found : Option ℕ) → KeepsTo (terms_of (export_of store table)) 0 (Unit {0}) (exports_followed held found)
+    followed_to None = refl
+    followed_to (Some number) = (has_store, tt)
 export_to store table (imported held) = exports_to (table_of held.style.tables table)
   where
     exports_to : (found : Option ℕ) → KeepsTo (terms_of (export_of store table)) 0 (Unit {0}) (exports held found)
@@ -351,6 +392,7 @@ keeps_to (init_of store) its = (refl, (refl, makes_store, tt))
 keeps_to (import_of store files buckets workers) its = (refl, has_store, λ state. import_to store files buckets workers state its)
 keeps_to (append_of store files ahead workers) its = (refl, has_store, λ state. append_to_store store files ahead workers state its)
 keeps_to (feed_of store files full workers) its = (refl, has_store, λ state. feed_to_store store files full workers state its)
+keeps_to (follow_of store files) its = (refl, has_store, λ state. follow_to_store store files state)
 keeps_to (export_of store table) its = (refl, has_store, λ state. export_to store table state)
 keeps_to (tiles_of store least clear) its = (refl, has_store, λ state. tiles_to store least clear state)
 keeps_to (query_of store files) its = (refl, has_store, λ state. query_to store files state its)
@@ -397,7 +439,7 @@ in_turn command old store cut ending file its opening comes names =
       accepted = λ other own less. told.up_to.accepted other own.0 (omega (arith, next.same, less));
       untouched = λ other above read. omega (arith, next.same, above, (told.up_to.only other read).1);
       unwritten = next.unwritten;
-      unbegun = next.unbegun;
+      unbegun = next.unbegun (λ is. subst (λ (fault : Option Fault). FaultNames fault file) is names);
     }
 
 -- whatever the beginning of the command
@@ -417,6 +459,8 @@ cause_of command old new (faults.Malformed file line why) blame failed = ((blame
 cause_of command old new (faults.BadStyle file why part) blame failed = ((blame.0, blame.1), blame.2)
 cause_of command old new (faults.BadBounds file line) blame failed = ((blame.0, blame.1), blame.2)
 cause_of command old new (faults.BadQuery file line why) blame failed = ((blame.0, blame.1), blame.2)
+cause_of command old new (faults.BadFeed file line why) blame failed = ((blame.0, blame.1), blame.2)
+cause_of command old new (faults.Gap file have got) blame failed = ((blame.0, blame.1), blame.2)
 cause_of command old new (faults.Limit which value) (inl over) failed = inl over
 cause_of command old new (faults.Limit which value) (inr (file, (low, high, told))) failed = inr (file, ((low, high), told))
 cause_of command old new (faults.ReadFault file) blame failed = (blame, failed)

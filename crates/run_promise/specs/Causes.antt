@@ -5,7 +5,8 @@ use Rattle.osm_base.specs.declared.bounds.limits.LimitKind.TheVariants.{Pages, P
 use Rattle.outside.specs.Bytes.{IfTold}
 use Rattle.page_journal.specs.Home.{IsFormatted}
 use Rattle.run_promise.specs.declared.fault.Fault.{Fault}
-use Rattle.run_promise.specs.declared.fault.Fault.TheVariants.{Usage, Malformed, BadStyle, BadBounds, BadQuery, Limit, ReadFault}
+use Rattle.run_promise.specs.declared.fault.Fault.TheVariants.{Usage, Malformed, BadStyle, BadBounds, BadQuery, BadFeed, Gap, Limit}
+use Rattle.run_promise.specs.declared.fault.Fault.TheVariants.{ReadFault}
 use Rattle.run_promise.specs.declared.fault.Fault.TheVariants.{NotFormatted, NotEmpty, NotImported, AlreadyImported, OldFormat, Follower}
 use Rattle.run_promise.specs.declared.fault.Fault.TheVariants.{UnknownTable, BadStore, WriteFault, DiskFault, OutOfMemory}
 use Rattle.run_promise.specs.CommandOf.{CommandOf, migrate_of, Names, no_store, new_store, old_store, use_of}
@@ -48,6 +49,8 @@ Cause command old new (Malformed file line why) = FileHas command old file (Malf
 Cause command old new (BadStyle file why part) = FileHas command old file (BadStyle file why part)
 Cause command old new (BadBounds file line) = FileHas command old file (BadBounds file line)
 Cause command old new (BadQuery file line why) = FileHas command old file (BadQuery file line why)
+Cause command old new (BadFeed file line why) = FileHas command old file (BadFeed file line why)
+Cause command old new (Gap file have got) = FileHas command old file (Gap file have got)
 Cause command old new (Limit which value) = IsOver command old which value
 Cause command old new (ReadFault file) = Names command file × ReadFailed old new
 Cause command old new NotFormatted = OpensStore command × IfTold old.content (λ bytes. ¬ IsFormatted bytes)

@@ -1,11 +1,11 @@
 -- To which endings a run on a course may come. Each deed of the course is done, or the run ends in it: for what the bytes that
 -- are told say, for a part of the outside that failed, or for want of memory.
-use Rattle.std.specs.Prelude.{◌≡◌, ◌≢◌, ◌⊎◌, ◌≤◌, ℕ, List, length, Option, Some, None, Result, Ok, Err}
+use Rattle.std.specs.Prelude.{◌≡◌, ◌≢◌, ◌⊎◌, ◌≤◌, ℕ, List, [], ◌∷◌, length, Option, Some, None, Result, Ok, Err}
 use Rattle.outside.specs.Bytes.{IfTold, IsTold}
 use Rattle.page_journal.specs.Home.{IsFormatted}
 use Rattle.run_promise.specs.declared.fault.Fault.{Fault}
-use Rattle.run_promise.specs.declared.fault.Fault.TheVariants.{Malformed, BadStyle, BadBounds, BadQuery, Limit, ReadFault, NotFormatted}
-use Rattle.run_promise.specs.declared.fault.Fault.TheVariants.{NotEmpty, WriteFault, DiskFault, OutOfMemory}
+use Rattle.run_promise.specs.declared.fault.Fault.TheVariants.{Malformed, BadStyle, BadBounds, BadQuery, BadFeed, Gap, Limit, ReadFault}
+use Rattle.run_promise.specs.declared.fault.Fault.TheVariants.{NotFormatted, NotImported, NotEmpty, WriteFault, DiskFault, OutOfMemory}
 use Rattle.osm_base.specs.bounds.Limits.{standard}
 use Rattle.page_journal.specs.declared.fault.StoreFault.TheVariants as stores
 use Rattle.update_flow.specs.AtRest.{IsDamaged}
@@ -14,14 +14,19 @@ use Rattle.update_flow.specs.Needed.{FitsLimit, NeedsFrom, Writes}
 use Rattle.update_flow.specs.Opening.{MayOpenAs}
 use Rattle.update_flow.specs.Refusals.{OrFull, Refuses}
 use Rattle.update_flow.specs.Calls.{IsChange, IsLook, MayCommit}
-use Rattle.update_flow.specs.State.{State, Step, after}
+use Rattle.update_flow.specs.State.{State, Step, Follow, after, changes_in}
 use Rattle.update_flow.specs.declared.fault.FlowFault.{FlowFault}
 use Rattle.update_flow.specs.declared.fault.FlowFault.TheVariants as flow
+use Rattle.delta_feed.specs.declared.block.Block.{Block}
 use Rattle.run_promise.specs.Course.{Course, ends, refuses, reads, wants_empty, formats, opens, looks, commits, tells, writes, feeds}
+use Rattle.run_promise.specs.Course.{follows}
+use Rattle.run_promise.specs.Courses.{version_line}
 use Rattle.run_promise.specs.Faults.{flow_fault}
 use Rattle.run_promise.specs.FeedBlocks.{IsFeedBlock}
+use Rattle.run_promise.specs.Followed.{FeedEnd, IsFeed, over, stopped, unseen}
 use Rattle.run_promise.specs.Keeps.{Kept, first}
 use Rattle.run_promise.specs.Progress.{Standing, unused, unknown, keeps, half_made, Progress, Ending, at, at_file, at_text, past, plus}
+use Rattle.run_promise.specs.Progress.{within_file}
 use Rattle.run_promise.specs.Progress.{with_store, made, opened, committed, in_doubt, IsIn}
 use Rattle.run_promise.specs.World.{Before}
 
@@ -117,6 +122,45 @@ IsRefusedFor IsWhy done ending = (fault : FlowFault) × IsWhy fault × (ending �
 abbrev pub IsBroken : Before → Progress → Ending → Type 0
 IsBroken old done ending = IfTold old.content IsDamaged × IsRefusedFor IsBadStore done ending
 
+-- a fault that the bytes of this file may have as those of a feed
+abbrev pub IsOfFeed : ℕ → Fault → Type 0
+IsOfFeed file (BadFeed own line why) = own ≡ file
+IsOfFeed file (Gap own have got) = own ≡ file
+IsOfFeed file (Limit which value) = Unit {0}
+IsOfFeed file NotImported = Unit {0}
+IsOfFeed file _ = ⊥
+
+-- a call that reads on in this file fails, or memory runs out
+abbrev pub BreaksWithin : (file : ℕ) → Progress → Ending → Type 0
+BreaksWithin file done ending = (ending ≡ at_file file done (ReadFault file)) ⊎ (ending ≡ at_file file done OutOfMemory)
+
+-- a step that a block asks for is refused, in the middle of its file
+abbrev pub IsRefusedWithin : (file : ℕ) → (FlowFault → Type 0) → Progress → Ending → Type 0
+IsRefusedWithin file IsWhy done ending = (fault : FlowFault) × IsWhy fault × (ending ≡ at_file file done (flow_fault fault))
+
+-- a block is taken in one step in the middle of its file, and then that comes; or the run ends in it
+abbrev pub TakesWithin : Before → (file : ℕ) → Block → Progress → Ending → (Progress → Type 0) → Type 0
+TakesWithin old file block done ending GoesOn = BreaksWithin file done ending ⊎ (ending ≡ at_file file done DiskFault) ⊎ ByStore done.store
+    (λ kept. (ending ≡ at_file file (in_doubt (Follow block) kept done) DiskFault)
+    ⊎ IsRefusedWithin file (IsRefusal old (state_after kept.history) (Follow block)) done ending
+    ⊎ (MayTake old (state_after kept.history) (Follow block) × GoesOn (committed (Follow block) kept done)))
+    (IsRefusedWithin file (IsStepFault (Some (Follow block))) done ending ⊎ GoesOn done)
+
+-- this is told in the middle of a file, and then that comes; or the run ends in it
+abbrev pub TellsWithin : (file : ℕ) → List ℕ → Progress → Ending → (Progress → Type 0) → Type 0
+TellsWithin file text done ending GoesOn = (ending ≡ within_file file (at_text text done WriteFault)) ⊎ GoesOn (plus text done)
+
+-- These blocks of a file are taken, one after another, each in one step, and told; then that comes. The run ends in one of them, or in the
+-- file behind them, or goes on with the state that they have led to.
+abbrev pub FollowsTo : Before → (file : ℕ) → List Block → FeedEnd → State → Progress → Ending → (State → Progress → Type 0) → Type 0
+FollowsTo old file [] over state done ending GoesOn = BreaksWithin file done ending ⊎ GoesOn state (past file done)
+FollowsTo old file [] (stopped fault) state done ending GoesOn = BreaksWithin file done ending
+    ⊎ (IsOfFeed file fault × (ending ≡ at_file file done fault))
+FollowsTo old file [] unseen state done ending GoesOn = BreaksWithin file done ending
+FollowsTo old file (block ∷ later) end state done ending GoesOn = TakesWithin old file block done ending
+    (λ taken. TellsWithin file (version_line (changes_in (after state (Follow block)))) taken ending
+    (λ told. FollowsTo old file later end (after state (Follow block)) told ending GoesOn))
+
 abbrev pub Comes : Before → Course → Progress → Ending → Type 0
 Comes old ends done ending = ending ≡ at done None
 Comes old (refuses fault) done ending = ending ≡ at done (Some fault)
@@ -147,6 +191,9 @@ Comes old (writes Fits rest) done ending = (ending ≡ at done (Some OutOfMemory
 Comes old (feeds Fits rest) done ending = (ending ≡ at done (Some OutOfMemory))
     ⊎ ((own : List ℕ) × IsFeedBlock own × (AreTold old done.read → IsCertain done.store → Fits own)
     × ((ending ≡ at_text own done WriteFault) ⊎ Comes old rest (plus own done) ending))
+Comes old (follows file state rest) done ending = (told : List Block) × (end : FeedEnd)
+    × IfTold (old.left file) (λ bytes. IsFeed file state bytes told end)
+    × FollowsTo old file told end state done ending (λ next further. Comes old (rest next) further ending)
 
 -- the fault blames the outside, or the want of memory
 abbrev pub IsOutside : Option Fault → Type 0
@@ -155,6 +202,22 @@ IsOutside (Some WriteFault) = Unit {0}
 IsOutside (Some DiskFault) = Unit {0}
 IsOutside (Some OutOfMemory) = Unit {0}
 IsOutside _ = ⊥
+
+-- a block is taken, and then that comes, if nothing outside fails and there is memory; or it is refused
+abbrev pub IsDueWithin : Before → (file : ℕ) → Block → Progress → Ending → (Progress → Type 0) → Type 0
+IsDueWithin old file block done ending GoesOn = ByStore done.store
+    (λ kept. IsRefusedWithin file (IsRefusal old (state_after kept.history) (Follow block)) done ending
+    ⊎ (MayTake old (state_after kept.history) (Follow block) × GoesOn (committed (Follow block) kept done)))
+    (IsRefusedWithin file (IsStepFault (Some (Follow block))) done ending ⊎ GoesOn done)
+
+-- these blocks of a file are taken and told, and then that comes, in the same case
+abbrev pub IsDueFollowing : Before → (file : ℕ) → List Block → FeedEnd → State → Progress → Ending → (State → Progress → Type 0) → Type 0
+IsDueFollowing old file [] over state done ending GoesOn = GoesOn state (past file done)
+IsDueFollowing old file [] (stopped fault) state done ending GoesOn = IsOfFeed file fault × (ending ≡ at_file file done fault)
+IsDueFollowing old file [] unseen state done ending GoesOn = ⊥
+IsDueFollowing old file (block ∷ later) end state done ending GoesOn = IsDueWithin old file block done ending
+    (λ taken. IsDueFollowing old file later end (after state (Follow block))
+    (plus (version_line (changes_in (after state (Follow block)))) taken) ending GoesOn)
 
 -- the end that is due: that to which a run comes if nothing outside fails and there is memory
 abbrev pub IsDue : Before → Course → Progress → Ending → Type 0
@@ -182,3 +245,6 @@ IsDue old (writes Fits rest) done ending =
     (own : List ℕ) × (AreTold old done.read → IsCertain done.store → Fits own) × IsDue old rest (plus own done) ending
 IsDue old (feeds Fits rest) done ending =
     (own : List ℕ) × IsFeedBlock own × (AreTold old done.read → IsCertain done.store → Fits own) × IsDue old rest (plus own done) ending
+IsDue old (follows file state rest) done ending = (told : List Block) × (end : FeedEnd)
+    × IfTold (old.left file) (λ bytes. IsFeed file state bytes told end)
+    × IsDueFollowing old file told end state done ending (λ next further. IsDue old (rest next) further ending)

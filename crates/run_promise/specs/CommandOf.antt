@@ -14,6 +14,7 @@ pub data CommandOf : Type 0 where
   import_of : (store : List ℕ) → (files : Files) → (buckets : ℕ) → (workers : ℕ) → CommandOf
   append_of : (store : List ℕ) → (files : Files) → (ahead : ℕ) → (workers : ℕ) → CommandOf
   feed_of : (store : List ℕ) → (files : Files) → (full : Bool) → (workers : ℕ) → CommandOf
+  follow_of : (store : List ℕ) → (files : Files) → CommandOf
   export_of : (store : List ℕ) → (table : List ℕ) → CommandOf
   tiles_of : (store : List ℕ) → (least : ℕ) → (clear : Bool) → CommandOf
   query_of : (store : List ℕ) → (files : Files) → CommandOf
@@ -29,6 +30,7 @@ store_of (Some (init_of store)) = Some store
 store_of (Some (import_of store files buckets workers)) = Some store
 store_of (Some (append_of store files ahead workers)) = Some store
 store_of (Some (feed_of store files full workers)) = Some store
+store_of (Some (follow_of store files)) = Some store
 store_of (Some (export_of store table)) = Some store
 store_of (Some (tiles_of store least clear)) = Some store
 store_of (Some (query_of store files)) = Some store
@@ -67,6 +69,7 @@ use_of (init_of store) = new_store
 use_of (import_of store files buckets workers) = old_store
 use_of (append_of store files ahead workers) = old_store
 use_of (feed_of store files full workers) = old_store
+use_of (follow_of store files) = old_store
 use_of (export_of store table) = old_store
 use_of (tiles_of store least clear) = old_store
 use_of (query_of store files) = old_store
@@ -83,6 +86,7 @@ files_of (lines_of key files) = files
 files_of (import_of store files buckets workers) = files
 files_of (append_of store files ahead workers) = files
 files_of (feed_of store files full workers) = files
+files_of (follow_of store files) = files
 files_of (query_of store files) = files
 files_of (serve_of store files workers readers) = files
 files_of (replay_of store files workers) = files
@@ -122,6 +126,7 @@ FilesFit (init_of store) = Unit {0}
 FilesFit (import_of store files buckets workers) = FitFrom 2 files × (files.count ≡ 2) × AreBuckets buckets
 FilesFit (append_of store files ahead workers) = FitFrom 2 files × (ahead ≤ MAX_AHEAD)
 FilesFit (feed_of store files full workers) = FitFrom 1 files
+FilesFit (follow_of store files) = FitFrom 1 files
 FilesFit (export_of store table) = Unit {0}
 FilesFit (tiles_of store least clear) = least ≤ MAX_ZOOM
 FilesFit (query_of store files) = FitFrom 1 files × (files.count ≡ 1)

@@ -28,6 +28,8 @@ pub data Course : Type 1 where
   writes : (List ℕ → Type 0) → Course → Course
   -- such a block of a feed is built, and told then; whatever is known of what it says, it is one block
   feeds : (List ℕ → Type 0) → Course → Course
+  -- a store of this state follows another one through a file of its feed: block by block is read, taken in one step, and told
+  follows : (file : ℕ) → State → (State → Course) → Course
 
 -- this text is built, and told then
 abbrev pub writes_text : List ℕ → Course → Course

@@ -21,13 +21,14 @@ use Rattle.tile_cover.specs.Table.{BoundsOf}
 use Rattle.tile_cover.specs.declared.runs.Run.{Run}
 use Rattle.update_flow.specs.Changes.{IsDeltaOf}
 use Rattle.update_flow.specs.Due.{Tiles}
-use Rattle.update_flow.specs.State.{Holding, State, formatted, imported, outdated, following, Import, Append, Clear, Migrate, fresh, changed}
+use Rattle.update_flow.specs.State.{Following, Holding, State, formatted, imported, outdated, following, Import, Append, Clear, Migrate}
+use Rattle.update_flow.specs.State.{fresh, changed}
 use Rattle.run_promise.specs.declared.fault.Fault.TheVariants.{AlreadyImported, Follower, NotImported, OldFormat, UnknownTable}
 use Rattle.run_promise.specs.declared.files.Files.{Files}
 use Rattle.run_promise.specs.CommandOf.{CommandOf, points_of, lines_of, init_of, import_of, append_of, export_of, tiles_of, query_of}
-use Rattle.run_promise.specs.CommandOf.{feed_of, serve_of, replay_of, migrate_of, check_of, demo_of}
+use Rattle.run_promise.specs.CommandOf.{feed_of, follow_of, serve_of, replay_of, migrate_of, check_of, demo_of}
 use Rattle.run_promise.specs.Course.{Course, ends, refuses, reads, wants_empty, formats, opens, looks, commits, tells, writes, writes_text}
-use Rattle.run_promise.specs.Course.{feeds}
+use Rattle.run_promise.specs.Course.{feeds, follows}
 use Rattle.run_promise.specs.Answers.{answers_text}
 use Rattle.run_promise.specs.Blocks.{AreBlocks}
 use Rattle.map_query.specs.declared.query.Query.{Query}
@@ -43,8 +44,8 @@ gathers file (suc count) entries rest = reads file (IsChange file) (λ more. gat
 abbrev pub init_course : Course
 init_course = wants_empty (formats (tells (codes "formatted\n") ends))
 
--- Nothing may have been imported into the store before, or something must have been. A store of the old format is refused as such, and so is
--- that of a follower.
+-- Nothing may have been imported into the store before, or something must have been. A store of the old format is refused as such, and
+-- so is that of a follower.
 abbrev pub if_formatted : Course → State → Course
 if_formatted rest formatted = rest
 if_formatted rest (imported held) = refuses AlreadyImported
@@ -197,6 +198,18 @@ feeds_changes bounds held file (suc count) =
     (feeds (IsDeltaText held (changed bounds change held))
     (feeds_changes bounds (changed bounds change held) (file + 1) count)))
 
+-- so many files of a feed from this one on are followed, one after another
+unfoldable pub follows_files : (file count : ℕ) → State → Course
+follows_files file zero state = ends
+follows_files file (suc count) state = follows file state (λ next. follows_files (file + 1) count next)
+
+-- a store that was only made may begin to follow
+abbrev pub follow_to : Files → State → Course
+follow_to files formatted = follows_files files.first files.count formatted
+follow_to files (imported held) = refuses AlreadyImported
+follow_to files (outdated held) = refuses AlreadyImported
+follow_to files (following held) = follows_files files.first files.count (following held)
+
 -- the block of all tables comes first, where it is asked for
 abbrev pub feeds_full : Bool → Holding → Course → Course
 feeds_full false held rest = rest
@@ -208,8 +221,16 @@ feed_to files full state = if_imported (λ held.
     reads files.first (IsBounds files.first) (λ bounds.
     feeds_full full held (feeds_changes bounds held (files.first + 1) (files.count - 1)))) state
 
+-- the same of a store that follows another one
+abbrev pub exports_followed : Following → Option ℕ → Course
+exports_followed held None = refuses UnknownTable
+exports_followed held (Some table) = looks (writes_text (table_text held.style held.tables table) ends)
+
 abbrev pub export_from : (table : List ℕ) → State → Course
-export_from table state = if_imported (λ held. exports held (table_of held.style.tables table)) state
+export_from table formatted = refuses NotImported
+export_from table (imported held) = exports held (table_of held.style.tables table)
+export_from table (outdated held) = refuses OldFormat
+export_from table (following held) = exports_followed held (table_of held.style.tables table)
 
 abbrev pub tiles_of_store : (least : ℕ) → (clear : Bool) → State → Course
 tiles_of_store least clear state = if_imported (λ held. looks (writes (IsTileText held.due least) (clears clear))) state
@@ -235,8 +256,8 @@ migrates (imported held) = tells format_line ends
 migrates (outdated held) = commits Migrate (tells format_line ends)
 migrates (following held) = refuses Follower
 
--- All of a store is looked at, whether something was imported or not, and that it is sound is told. One of the old format is not judged, nor is
--- that of a follower.
+-- All of a store is looked at, whether something was imported or not, and that it is sound is told. One of the old format is not
+-- judged, nor is that of a follower.
 abbrev pub sound_line : List ℕ
 sound_line = codes "sound\n"
 
@@ -275,6 +296,7 @@ course_of (init_of store) = init_course
 course_of (import_of store files buckets workers) = opens (import_into files buckets)
 course_of (append_of store files ahead workers) = opens (append_to files)
 course_of (feed_of store files full workers) = opens (feed_to files full)
+course_of (follow_of store files) = opens (follow_to files)
 course_of (export_of store table) = opens (export_from table)
 course_of (tiles_of store least clear) = opens (tiles_of_store least clear)
 course_of (query_of store files) = opens (query_from files)

@@ -8,6 +8,7 @@ use Rattle.osm_base.specs.values.Key.{KeyOf}
 use Rattle.opl_object.specs.declared.why.Why.{Why}
 use Rattle.opl_object.specs.declared.why.Why.TheVariants.{Order}
 use Rattle.opl_object.specs.Why.{number_of}
+use Rattle.delta_feed.specs.Why.{number_of as feed_number}
 use Rattle.style_read.specs.declared.fault.StylePart.{StylePart}
 use Rattle.style_read.specs.declared.fault.StylePart.TheVariants as parts
 use Rattle.style_read.specs.Why.{number_of as style_number}
@@ -15,7 +16,8 @@ use Rattle.map_query.specs.Fault.{number_of as query_number}
 use Rattle.page_journal.specs.declared.fault.StoreFault.{StoreFault}
 use Rattle.page_journal.specs.declared.fault.StoreFault.TheVariants as stores
 use Rattle.run_promise.specs.declared.fault.Fault.{Fault}
-use Rattle.run_promise.specs.declared.fault.Fault.TheVariants.{Usage, Malformed, BadStyle, BadBounds, BadQuery, Limit, ReadFault}
+use Rattle.run_promise.specs.declared.fault.Fault.TheVariants.{Usage, Malformed, BadStyle, BadBounds, BadQuery, BadFeed, Gap, Limit}
+use Rattle.run_promise.specs.declared.fault.Fault.TheVariants.{ReadFault}
 use Rattle.run_promise.specs.declared.fault.Fault.TheVariants.{NotFormatted, NotEmpty, NotImported, AlreadyImported, OldFormat, Follower}
 use Rattle.run_promise.specs.declared.fault.Fault.TheVariants.{UnknownTable, BadStore, WriteFault, DiskFault, OutOfMemory}
 use Rattle.update_flow.specs.declared.fault.FlowFault.{FlowFault}
@@ -63,6 +65,8 @@ status_of (Some (Limit _ _)) = 10
 status_of (Some OutOfMemory) = 11
 status_of (Some (BadQuery _ _ _)) = 12
 status_of (Some UnknownTable) = 12
+status_of (Some (Gap _ _ _)) = 14
+status_of (Some (BadFeed _ _ _)) = 15
 
 -- the letter of a kind
 abbrev pub kind_text : Kind → List ℕ
@@ -108,6 +112,9 @@ fault_text (BadStyle file why part) =
 fault_text (BadBounds file line) = codes "bad bounds file " ++ decimal file ++ codes " line " ++ decimal line
 fault_text (BadQuery file line why) = codes "bad query file " ++ decimal file ++ codes " line " ++ decimal line ++ codes " cause "
     ++ decimal (query_number why)
+fault_text (BadFeed file line why) = codes "bad feed file " ++ decimal file ++ codes " line " ++ decimal line ++ codes " cause "
+    ++ decimal (feed_number why)
+fault_text (Gap file have got) = codes "gap file " ++ decimal file ++ codes " have " ++ decimal have ++ codes " got " ++ decimal got
 fault_text (Limit which value) = codes "limit " ++ limit_text which ++ codes " value " ++ decimal value
 fault_text (ReadFault file) = codes "read fault file " ++ decimal file
 fault_text NotFormatted = codes "not formatted"

@@ -2,7 +2,7 @@
 use Rattle.std.specs.Prelude.{◌≡◌, ◌≤◌, ◌<◌, ℕ, [], Option, Some}
 use Rattle.outside.specs.Bytes.{IfTold}
 use Rattle.run_promise.specs.declared.fault.Fault.{Fault}
-use Rattle.run_promise.specs.declared.fault.Fault.TheVariants.{Malformed, BadStyle, BadBounds, BadQuery, ReadFault}
+use Rattle.run_promise.specs.declared.fault.Fault.TheVariants.{Malformed, BadStyle, BadBounds, BadQuery, BadFeed, Gap, ReadFault}
 use Rattle.run_promise.specs.CommandOf.{CommandOf, Names}
 use Rattle.run_promise.specs.Reading.{Accepts, ReadsFirst}
 use Rattle.run_promise.specs.Progress.{Ending, IsIn}
@@ -14,6 +14,8 @@ FaultNames (Some (Malformed own line why)) file = own ≡ file
 FaultNames (Some (BadStyle own why part)) file = own ≡ file
 FaultNames (Some (BadBounds own line)) file = own ≡ file
 FaultNames (Some (BadQuery own line why)) file = own ≡ file
+FaultNames (Some (BadFeed own line why)) file = own ≡ file
+FaultNames (Some (Gap own have got)) file = own ≡ file
 FaultNames (Some (ReadFault own)) file = own ≡ file
 FaultNames _ file = ⊥
 

@@ -11,6 +11,7 @@ pub mod EndsWell
 pub mod Faults
 pub mod FeedBlocks
 pub mod Files
+pub mod Followed
 pub mod Followers
 pub mod InTurn
 pub mod Keeps

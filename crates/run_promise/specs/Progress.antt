@@ -42,6 +42,10 @@ at_file file done fault = record { done = done; reading = Some file; writing = [
 abbrev pub at_text : List ℕ → Progress → Fault → Ending
 at_text text done fault = record { done = done; reading = None; writing = text; fault = Some fault }
 
+-- in the middle of a file that is read on behind this
+abbrev pub within_file : ℕ → Ending → Ending
+within_file file ending = record ending { reading = Some file }
+
 -- after a file was read to its end
 abbrev pub past : ℕ → Progress → Progress
 past file done = record done { read = file ∷ done.read }

@@ -3,8 +3,11 @@ use Rattle.std.specs.Prelude.{◌≡◌, ◌≤◌, ◌+◌, ◌⊎◌, ℕ, Lis
 use Rattle.style_read.specs.Style.{StyleOf}
 use Rattle.tile_cover.specs.Table.{BoundsOf}
 use Rattle.run_promise.specs.declared.fault.Fault.{Fault}
-use Rattle.run_promise.specs.CommandOf.{CommandOf, import_of, append_of, feed_of, query_of, serve_of, replay_of}
+use Rattle.run_promise.specs.CommandOf.{CommandOf, import_of, append_of, feed_of, follow_of, query_of, serve_of, replay_of}
 use Rattle.map_query.specs.declared.query.Query.{Query}
+use Rattle.delta_feed.specs.declared.block.Block.{Block}
+use Rattle.update_flow.specs.State.{State}
+use Rattle.run_promise.specs.Followed.{IsFeed, over, stopped}
 use Rattle.run_promise.specs.Files.{IsBounds, IsChange, IsQueries, IsStyle, change_in}
 
 -- the bytes of a file are accepted as a style, or as boundaries
@@ -21,6 +24,14 @@ AcceptsChange file bytes = IsOk (change_in file bytes)
 abbrev pub AcceptsQueries : (file : ℕ) → List ℕ → Type 0
 AcceptsQueries file bytes = (style : StyleOf) × (found : List Query) × IsQueries style file bytes (Ok found)
 
+-- the bytes are accepted as blocks by a store of some state, that in which the run finds it, which Courses names; or they have this
+-- fault then
+abbrev pub AcceptsFeed : (file : ℕ) → List ℕ → Type 0
+AcceptsFeed file bytes = (state : State) × (told : List Block) × IsFeed file state bytes told over
+
+abbrev pub HasFeedFault : (file : ℕ) → List ℕ → Fault → Type 0
+HasFeedFault file bytes fault = (state : State) × (told : List Block) × IsFeed file state bytes told (stopped fault)
+
 -- a file of the command with these bytes is accepted: as a style, as boundaries or as changes, by its place
 abbrev pub Accepts : CommandOf → (file : ℕ) → List ℕ → Type 0
 Accepts (import_of store files buckets workers) file bytes =
@@ -29,6 +40,7 @@ Accepts (append_of store files ahead workers) file bytes =
     ((file ≡ files.first) × AcceptsBounds file bytes) ⊎ ((files.first + 1 ≤ file) × AcceptsChange file bytes)
 Accepts (feed_of store files full workers) file bytes =
     ((file ≡ files.first) × AcceptsBounds file bytes) ⊎ ((files.first + 1 ≤ file) × AcceptsChange file bytes)
+Accepts (follow_of store files) file bytes = AcceptsFeed file bytes
 Accepts (query_of store files) file bytes = AcceptsQueries file bytes
 Accepts (serve_of store files workers readers) file bytes =
     ((file ≡ files.first) × AcceptsBounds file bytes) ⊎ ((file ≡ files.first + 1) × AcceptsQueries file bytes)
@@ -46,6 +58,7 @@ HasFault (append_of store files ahead workers) file bytes fault =
     ((file ≡ files.first) × IsBounds file bytes (Err fault)) ⊎ ((files.first + 1 ≤ file) × IsChange file bytes (Err fault))
 HasFault (feed_of store files full workers) file bytes fault =
     ((file ≡ files.first) × IsBounds file bytes (Err fault)) ⊎ ((files.first + 1 ≤ file) × IsChange file bytes (Err fault))
+HasFault (follow_of store files) file bytes fault = HasFeedFault file bytes fault
 HasFault (query_of store files) file bytes fault = (style : StyleOf) × IsQueries style file bytes (Err fault)
 HasFault (serve_of store files workers readers) file bytes fault =
     ((file ≡ files.first) × IsBounds file bytes (Err fault))
@@ -60,6 +73,7 @@ HasFault _ file bytes fault = IsChange file bytes (Err fault)
 abbrev pub ReadsFirst : CommandOf → Type 0
 ReadsFirst (append_of store files ahead workers) = ⊥
 ReadsFirst (feed_of store files full workers) = ⊥
+ReadsFirst (follow_of store files) = ⊥
 ReadsFirst (serve_of store files workers readers) = ⊥
 ReadsFirst (replay_of store files workers) = ⊥
 ReadsFirst _ = Unit {0}
@@ -69,6 +83,7 @@ abbrev pub HasItsFiles : CommandOf → Type 0
 HasItsFiles (import_of store files buckets workers) = files.count ≡ 2
 HasItsFiles (append_of store files ahead workers) = 2 ≤ files.count
 HasItsFiles (feed_of store files full workers) = 1 ≤ files.count
+HasItsFiles (follow_of store files) = 1 ≤ files.count
 HasItsFiles (query_of store files) = files.count ≡ 1
 HasItsFiles (serve_of store files workers readers) = 2 ≤ files.count
 HasItsFiles (replay_of store files workers) = 3 ≤ files.count

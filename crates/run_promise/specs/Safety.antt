@@ -5,8 +5,8 @@ use Rattle.outside.specs.Bytes.{BothKnown, IsTold}
 use Rattle.run_promise.specs.declared.fault.Fault.{Fault}
 use Rattle.run_promise.specs.declared.fault.Fault.TheVariants.{WriteFault, DiskFault, OutOfMemory}
 use Rattle.update_flow.specs.State.{Step}
-use Rattle.run_promise.specs.CommandOf.{CommandOf, import_of, append_of, feed_of, serve_of, replay_of, demo_of, new_store, old_store}
-use Rattle.run_promise.specs.CommandOf.{use_of}
+use Rattle.run_promise.specs.CommandOf.{CommandOf, import_of, append_of, feed_of, follow_of, serve_of, replay_of, demo_of, new_store}
+use Rattle.run_promise.specs.CommandOf.{old_store, use_of}
 use Rattle.run_promise.specs.Comes.{Comes}
 use Rattle.run_promise.specs.Courses.{course_of}
 use Rattle.run_promise.specs.FeedBlocks.{IsFeedBlock, IsPart, lines_in}
@@ -67,6 +67,9 @@ pub record AcknowledgesBlocks (full : Bool) (now : Kept) (cut : ℕ) (steps : Li
 abbrev pub AcknowledgesBy : CommandOf → (now : Kept) → (cut : ℕ) → List Step → Option Fault → (earlier later : List ℕ) → Type 0
 AcknowledgesBy (feed_of store files full workers) now cut steps fault earlier later =
     (own : List ℕ) × (later ≡ earlier ++ own) × AcknowledgesBlocks full now cut steps fault own
+-- each line of a follower tells a step
+AcknowledgesBy (follow_of store files) now cut steps fault earlier later =
+    Acknowledges (lines_in later - lines_in earlier) now cut steps fault (lines_in later - lines_in earlier)
 AcknowledgesBy command now cut steps fault earlier later =
     Acknowledges (steps_told command) now cut steps fault (lines_in later - lines_in earlier)
 

@@ -1,10 +1,12 @@
 //! Why a run ended early, with its status and its line of text.
 ghost use Rattle.std.specs.Prelude.{◌≡◌, IfOk, [], ◌∷◌};
 ghost use Rattle.run_promise.specs.Faults.{fault_of, fault_text, flow_fault, kind_text, limit_text, status_of};
+ghost use Rattle.run_promise.specs.Followed.{feed_fault};
 ghost use Rattle.run_promise.specs.Making.{of_made};
 ghost use Rattle.run_promise.specs.Files.{bounds_fault, fault_in, query_fault, style_fault, whole_fault};
 
 use crate::files::MAX_WHOLE;
+use delta_feed::{FeedFault, FeedWhy};
 use map_query::{QueryFault, QueryWhy};
 use object_fold::{FileFault, WholeFault};
 use opl_object::Why;
@@ -44,6 +46,18 @@ pub enum Fault {
         file: u32,
         line: u32,
         why: QueryWhy,
+    },
+    /// A line of a feed is not good, for this cause.
+    BadFeed {
+        file: u32,
+        line: u32,
+        why: FeedWhy,
+    },
+    /// A block of a feed does not come next: the tables have seen fewer changes.
+    Gap {
+        file: u32,
+        have: u64,
+        got: u64,
     },
     /// There is more of something than there may be.
     Limit {
@@ -134,6 +148,19 @@ impl Fault {
         match fault {
             QueryFault::Bad { line, why } => Fault::BadQuery { file, line, why },
             QueryFault::OutOfMemory => Fault::OutOfMemory,
+        }
+    }
+
+    /// Why a block of this file is not read.
+    pub fn in_feed(file: u32, fault: FeedFault) -> Self
+        ensures fault { result ≡ feed_fault file fault }
+    {
+        match fault {
+            FeedFault::Bad { line, why } => Fault::BadFeed { file, line, why },
+            FeedFault::NoBase { .. } => Fault::NotImported,
+            FeedFault::Limit { which, value } => Fault::Limit { which, value },
+            FeedFault::ReadFault => Fault::ReadFault { file },
+            FeedFault::OutOfMemory => Fault::OutOfMemory,
         }
     }
 
@@ -249,6 +276,8 @@ impl Outcome {
             Some(Fault::Limit { .. }) => 10,
             Some(Fault::OutOfMemory) => 11,
             Some(Fault::BadQuery { .. } | Fault::UnknownTable) => 12,
+            Some(Fault::Gap { .. }) => 14,
+            Some(Fault::BadFeed { .. }) => 15,
         };
         Self { status, fault }
     }
@@ -288,6 +317,12 @@ impl fmt::Display for Fault {
                 "bad query file {file} line {line} cause {}",
                 why.number()
             ),
+            Fault::BadFeed { file, line, why } => write!(
+                f,
+                "bad feed file {file} line {line} cause {}",
+                why.number()
+            ),
+            Fault::Gap { file, have, got } => { write!(f, "gap file {file} have {have} got {got}") }
             Fault::Limit { which, value } => {
                 write!(f, "limit {} value {value}", limit_name(*which))
             }

@@ -1,11 +1,11 @@
 //! What holds of the runs of every command, by their courses.
 ghost use Rattle.std.specs.Prelude.{◌≡◌, ◌≢◌, Bool, List, None, Some, true, ℕ};
-ghost use Rattle.run_promise.specs.Causes.{OpensStore, WantsNewFormat};
+ghost use Rattle.run_promise.specs.Causes.{WantsNewFormat};
 ghost use Rattle.run_promise.specs.Comes.{Comes, IsDue, IsOutside};
-ghost use Rattle.run_promise.specs.CommandOf.{CommandOf, append_of, check_of, feed_of, import_of, migrate_of, tiles_of, use_of};
+ghost use Rattle.run_promise.specs.CommandOf.{CommandOf, append_of, check_of, feed_of, follow_of, import_of, migrate_of, tiles_of, use_of};
 ghost use Rattle.run_promise.specs.Courses.{course_of};
-ghost use Rattle.run_promise.specs.EndsWell.{IsAppended, IsCleared, IsFed, IsFirstImport, IsFoundSound};
-ghost use Rattle.run_promise.specs.Followers.{LeavesFollower};
+ghost use Rattle.run_promise.specs.EndsWell.{IsAppended, IsCleared, IsFed, IsFirstImport, IsFollowed, IsFoundSound};
+ghost use Rattle.run_promise.specs.Followers.{LeavesFollower, RefusesFollowers};
 ghost use Rattle.run_promise.specs.InTurn.{FaultNames, IsInTurn};
 ghost use Rattle.run_promise.specs.Keeps.{Kept};
 ghost use Rattle.run_promise.specs.Migrating.{IsMigrated, LeavesOld};
@@ -32,12 +32,12 @@ pub fn faults_come_in_turn()
 /// Each command that opens its store leaves one of the old format as it is, but for `migrate`.
 pub fn old_stores_are_left()
     ensures left { (command : CommandOf) (old : Before) (kept : Kept) (ending : Ending) → WantsNewFormat command
-        → Comes old (course_of command) (begun (keeps kept) kept.least) ending → LeavesOld kept ending }
+        → Comes old (course_of command) (begun (keeps kept) kept.least) ending → LeavesOld command kept ending }
 {}
 
-/// Each command that opens its store leaves that of a follower as it is.
+/// Each command that opens its store leaves that of a follower as it is, but for `follow` and `export`.
 pub fn follower_stores_are_left()
-    ensures left { (command : CommandOf) (old : Before) (kept : Kept) (ending : Ending) → OpensStore command
+    ensures left { (command : CommandOf) (old : Before) (kept : Kept) (ending : Ending) → RefusesFollowers command
         → Comes old (course_of command) (begun (keeps kept) kept.least) ending → LeavesFollower kept ending }
 {}
 
@@ -59,6 +59,13 @@ pub fn feeds_end_well()
     ensures fed { (old : Before) (store : List ℕ) (files : Files) (full : Bool) (workers : ℕ) (kept : Kept) (ending : Ending)
         → Comes old (course_of (feed_of store files full workers)) (begun (keeps kept) kept.least) ending → ending.fault ≡ None
         → IsFed old files full kept ending }
+{}
+
+/// A following that ends well has taken each block of its files, one after another, and told each.
+pub fn follows_end_well()
+    ensures followed { (old : Before) (store : List ℕ) (files : Files) (kept : Kept) (ending : Ending)
+        → Comes old (course_of (follow_of store files)) (begun (keeps kept) kept.least) ending → ending.fault ≡ None
+        → IsFollowed old files kept ending }
 {}
 
 /// An import that ends well was the first one, and has told so.
