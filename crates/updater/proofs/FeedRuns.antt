@@ -21,7 +21,7 @@ use Rattle.update_flow.specs.Handle.{Handle, IsOpen, Looks, Shows, Takes, change
 use Rattle.update_flow.specs.declared.fault.FlowFault.{FlowFault}
 use Rattle.run_promise.specs.declared.fault.Fault.{Fault}
 use Rattle.run_promise.specs.Comes.{AreTold, Comes, IsCertain}
-use Rattle.run_promise.specs.Course.{Course, commits, ends, feeds, looks, reads}
+use Rattle.run_promise.specs.Course.{Course, commits, ends, feeds, reads}
 use Rattle.run_promise.specs.Courses.{IsDeltaText, feeds_changes, feeds_full}
 use Rattle.run_promise.specs.Faults.{flow_fault}
 use Rattle.run_promise.specs.FeedBlocks.{IsFeedBlock}

@@ -1,4 +1,10 @@
 pub mod Asked
+pub mod FollowOpens
+pub mod ExportRuns
+pub mod FollowBlocks
+pub mod FollowFiles
+pub mod BaseLaws
+pub mod FollowRuns
 pub mod NoStoreFaults
 pub mod Manual
 pub mod WordLists

@@ -84,6 +84,8 @@ module _ (files : FilesView) (view now : DiskView) (output : SinkView) (same : n
   not_empty (faults.BadStyle file cause part) rest why = absurd why
   not_empty (faults.BadBounds file line) rest why = absurd why
   not_empty (faults.BadQuery file line cause) rest why = absurd why
+  not_empty (faults.BadFeed file line cause) rest why = absurd why
+  not_empty (faults.Gap file have got) rest why = absurd why
   not_empty (faults.Limit which value) rest why = absurd why
   not_empty (faults.ReadFault file) rest why = absurd why
   not_empty faults.NotFormatted rest why = absurd why

@@ -141,9 +141,15 @@ pub at_either : (disk : DiskView) (kept : Kept) → IsKept disk kept
     → IsAtEither (state_after (first kept.least kept.history)) (state_after (first kept.most kept.history)) disk
 at_either disk kept is = record { told = is.told; only = λ left out. either_kept kept is.fit left (is.keeps left out) }
 
--- the store that was opened: at which state, and where the run goes on
-pub record IsBegun (start : Progress) (next : ℕ) (old : Before) (files : FilesView) (updater : Handle) (output : SinkView) : Type 1 where
+-- of any state
+abbrev pub AnyState : State → Type 0
+AnyState state = Unit {0}
+
+-- the store that was opened: at which state, of which this is so, and where the run goes on
+pub record IsBegun (IsSo : State → Type 0) (start : Progress) (next : ℕ) (old : Before) (files : FilesView) (updater : Handle)
+    (output : SinkView) : Type 1 where
   pub state : State
+  pub so : IsSo state
   pub further : Progress
   pub head : IsHead start further state next old files updater output
   pub leads : (rest : State → Course) (ending : Ending) → Comes old (rest state) further ending → Comes old (opens rest) start ending
@@ -153,7 +159,7 @@ module _ (files : FilesView) (view : DiskView) (output : SinkView)
   abbrev old : Before
   old = remembered (world files view output)
 
-  begun_leaves : (store : Standing) (cut : ℕ) (from : Standing) (least : ℕ) (fault : Option Fault) (now : DiskView)
+  pub begun_leaves : (store : Standing) (cut : ℕ) (from : Standing) (least : ℕ) (fault : Option Fault) (now : DiskView)
       → StandsOn fault store old now → SurvivesFrom from cut store view.crashes.moment now.crashes
       → HasCause old (world files now output) fault → view.faults ≤ now.faults
       → Leaves (begun from least) (at (begun store cut) fault) old (world files now output)
@@ -176,7 +182,7 @@ module _ (files : FilesView) (view : DiskView) (output : SinkView)
     abbrev other : State
     other = state_after (first kept.most kept.history)
 
-    begun_moments : (cut : ℕ) (store : Standing) (now : Crashes) → Goes (IsOfEither one other) view.crashes now
+    pub begun_moments : (cut : ℕ) (store : Standing) (now : Crashes) → Goes (IsOfEither one other) view.crashes now
         → SurvivesFrom (keeps kept) cut store view.crashes.moment now
     begun_moments cut store now goes = record {
       later = goes.later;
@@ -188,13 +194,16 @@ module _ (files : FilesView) (view : DiskView) (output : SinkView)
 
     module _ (updater : Handle) (next : ℕ) (limits : limits_of updater ≡ standard) (later : view.faults ≤ (view_of updater).faults)
         (goes : Goes (IsOfEither one other) view.crashes (view_of updater).crashes)
-        (as_told : (bytes : List ℕ) → view.content ≡ Some bytes → (gate bytes ≡ OPEN → ⊥) → (view_of updater).content ≡ view.content) where
-      begun_at : (cut : ℕ) → kept.least ≤ cut → cut ≤ kept.most → IsOpen (state_after (first cut kept.history)) updater
-          → IsBegun (begun (keeps kept) kept.least) next old files updater output
-      begun_at cut low high rests =
+        (as_told : (bytes : List ℕ) → view.content ≡ Some bytes → (gate bytes ≡ OPEN → ⊥) → (view_of updater).content ≡ view.content)
+        (IsSo : State → Type 0) where
+      begun_at : (cut : ℕ) → kept.least ≤ cut → cut ≤ kept.most
+          → IsOpen (state_after (first cut kept.history)) updater × IsSo (state_after (first cut kept.history))
+          → IsBegun IsSo (begun (keeps kept) kept.least) next old files updater output
+      begun_at cut low high (rests, so) =
           let within : cut ≤ length kept.history.steps = omega (arith, high, is.fit.last) in
           record {
             state = state_after (first cut kept.history);
+            so = so;
             further = opened kept cut (begun (keeps kept) kept.least);
             head = record {
               here = record {
@@ -218,8 +227,8 @@ module _ (files : FilesView) (view : DiskView) (output : SinkView)
           }
 
       pub begun_kept : (IsAt one (view_of updater) ⊎ IsAt other (view_of updater))
-          → ((state : State) → IsAt state (view_of updater) → IsOpen state updater)
-          → IsBegun (begun (keeps kept) kept.least) next old files updater output
+          → ((state : State) → IsAt state (view_of updater) → IsOpen state updater × IsSo state)
+          → IsBegun IsSo (begun (keeps kept) kept.least) next old files updater output
       begun_kept (inl rests) open_so = begun_at kept.least (omega arith) is.fit.order (open_so one rests)
       begun_kept (inr rests) open_so = begun_at kept.most is.fit.order (omega arith) (open_so other rests)
 
@@ -267,9 +276,10 @@ module _ (files : FilesView) (view : DiskView) (output : SinkView)
   pub begun_vague : (updater : Handle) (next : ℕ) → limits_of updater ≡ standard → is_whole updater ≡ true → is_follower updater ≡ false
       → TellsNone updater
       → view.faults ≤ (view_of updater).faults
-      → IsFound view.content updater → IsBegun (begun unknown 0) next old files updater output
+      → IsFound view.content updater → IsBegun AnyState (begun unknown 0) next old files updater output
   begun_vague updater next limits sound own none later found = record {
     state = state_shown updater;
+    so = tt;
     further = begun unknown 0;
     head = record {
       here = record { shows = shows_state updater own none; whole = sound };

@@ -19,7 +19,10 @@ use Rattle.style_read.specs.Style.{StyleOf}
 use Rattle.update_flow.specs.Handle.{Handle, IsOpen, changes_of, is_follower, is_old, is_whole, limits_of, style_of, view_of}
 use Rattle.update_flow.specs.Opening.{Found, FoundIn, RootTells, RootTold}
 use Rattle.update_flow.specs.SoundTurns.{FindsSound, FindsSoundIn}
+use Rattle.update_flow.specs.Either.{EitherTold, FindsSoundEither, FoundEither}
 use Rattle.update_flow.specs.Updater.{disk_of, handle_of}
+use Rattle.update_flow.specs.declared.either.Either.{Either}
+use Rattle.update_flow.specs.declared.either.Either.TheVariants as eithers
 use Rattle.update_flow.specs.declared.opened.Opened.{Opened}
 use Rattle.update_flow.specs.declared.updater.Updater.{Updater}
 use Rattle.update_flow.specs.declared.fault.FlowFault.{FlowFault}
@@ -31,10 +34,10 @@ use Rattle.run_promise.specs.CommandOf.{old_store}
 use Rattle.run_promise.specs.Course.{Course, opens}
 use Rattle.run_promise.specs.Faults.{flow_fault}
 use Rattle.updater.specs.Heads.{GoesOn, IsHead}
-use Rattle.run_promise.specs.Progress.{Progress, at}
+use Rattle.run_promise.specs.Progress.{Progress, Ending, at, begun, unknown}
 use Rattle.run_promise.specs.Runs.{Begins, GoesBy}
 use Rattle.run_promise.specs.World.{Before, World, remembered, world}
-use Rattle.updater.proofs.OpenDeeds.{IsBegun, IsFound, TellsNone, at_either, begun_kept, begun_vague, follower_kept, follower_vague, refused_kept}
+use Rattle.updater.proofs.OpenDeeds.{AnyState, IsBegun, IsFound, TellsNone, at_either, begun_kept, begun_vague, follower_kept, follower_vague, refused_kept}
 use Rattle.updater.proofs.OpenDeeds.{refused_vague}
 use Rattle.updater.proofs.VersionRuns.{goes_back}
 
@@ -81,32 +84,50 @@ module _ (files : FilesView) (view : DiskView) (output : SinkView)
           (let went = opened _ _ (at_either view kept fits) in
           follower_kept files view output only_now now cause.later rest stops kept fits went.moments (went.found refl) (own fits.told))
 
+  -- the run goes on over the open store, whatever comes where nothing is known of its disk
+  module _ (IsSo : State → Type 0) (updater : Handle) (next : ℕ) (opened : (one other : State) → IsAtEither one other view
+      → Opens one other None view (view_of updater))
+      (open_so : IsTold view.content → (state : State) → IsAt state (view_of updater) → IsOpen state updater × IsSo state)
+      (limits : limits_of updater ≡ standard) (cause : HasFlowCause None view (view_of updater))
+      (as_told : (bytes : List ℕ) → view.content ≡ Some bytes → (gate bytes ≡ OPEN → ⊥) → (view_of updater).content ≡ view.content)
+      (vague : IsBegun IsSo (begun unknown 0) next Old files updater output) where
+    is_begun : IsBegun IsSo start next Old files updater output
+    is_begun = by begins
+      where
+        by : Begins old_store (world files view output) start → IsBegun IsSo start next Old files updater output
+        by (inl is) = subst (λ (own : Progress). IsBegun IsSo own next Old files updater output) (sym is) vague
+        by (inr (kept, fits, is)) = subst (λ (own : Progress). IsBegun IsSo own next Old files updater output) (sym is)
+            (let own = opened _ _ (at_either view kept fits) in
+            begun_kept files view output only_now kept fits updater next limits cause.later own.moments as_told IsSo (own.found refl)
+            (open_so fits.told))
+
+    -- by a course that goes on by another one from such states
+    pub goes_begun : (course rest : State → Course)
+        → ((state : State) → IsSo state → (old : Before) (done : Progress) (ending : Ending) → Comes old (rest state) done ending
+        → Comes old (course state) done ending)
+        → (fault : Option Fault) (new : World)
+        → ((old : Before) (start done : Progress) (state : State) → IsSo state → IsHead start done state next old files updater output
+        → GoesOn (rest state) start done fault old new)
+        → GoesBy (opens course) start fault (world files view output) new
+    goes_begun course rest leads fault new goes =
+        let own = is_begun in
+        goes_back (opens course) (rest own.state) start start own.further fault Old new
+        (goes Old start own.further own.state own.so own.head)
+        (λ ending comes. own.leads course ending (leads own.state own.so Old own.further ending comes))
+
   module _ (updater : Handle) (next : ℕ) (opened : (one other : State) → IsAtEither one other view
       → Opens one other None view (view_of updater))
       (open_so : IsTold view.content → (state : State) → IsAt state (view_of updater) → IsOpen state updater)
       (limits : limits_of updater ≡ standard) (sound : is_whole updater ≡ true) (own_is : is_follower updater ≡ false)
       (none : TellsNone updater) (cause : HasFlowCause None view (view_of updater)) (found : IsFound view.content updater)
       (as_told : (bytes : List ℕ) → view.content ≡ Some bytes → (gate bytes ≡ OPEN → ⊥) → (view_of updater).content ≡ view.content) where
-    is_begun : IsBegun start next Old files updater output
-    is_begun = by begins
-      where
-        by : Begins old_store (world files view output) start → IsBegun start next Old files updater output
-        by (inl is) = subst (λ (own : Progress). IsBegun own next Old files updater output) (sym is)
-            (begun_vague files view output only_now updater next limits sound own_is none cause.later found)
-        by (inr (kept, fits, is)) = subst (λ (own : Progress). IsBegun own next Old files updater output) (sym is)
-            (let own = opened _ _ (at_either view kept fits) in
-            begun_kept files view output only_now kept fits updater next limits cause.later own.moments as_told (own.found refl)
-            (open_so fits.told))
-
-    -- the run goes on over the open store
     pub goes_opened : (rest : State → Course) (fault : Option Fault) (new : World)
         → ((old : Before) (start done : Progress) (state : State) → IsHead start done state next old files updater output
         → GoesOn (rest state) start done fault old new)
         → GoesBy (opens rest) start fault (world files view output) new
-    goes_opened rest fault new goes =
-        let own = is_begun in
-        goes_back (opens rest) (rest own.state) start start own.further fault Old new (goes Old start own.further own.state own.head)
-        (own.leads rest)
+    goes_opened rest fault new goes = goes_begun AnyState updater next opened (λ told state at. (open_so told state at, tt)) limits cause
+        as_told (begun_vague files view output only_now updater next limits sound own_is none cause.later found) rest rest
+        (λ state so old done ending comes. comes) fault new (λ old start done state so head. goes old start done state head)
 
 -- the same over the disk that was opened, and that is handed back
 pub goes_over : {D : Type 0} {g : Ghosts D} (files : FilesView) (view : DiskView) (output : SinkView)
@@ -151,6 +172,18 @@ module _ (found : Option Opened) (opened : Opened) (is : found ≡ Some opened) 
 
   pub sound_some : (view : DiskView) → FindsSoundIn view found → FindsSound view opened
   sound_some view own = subst (λ (o : Option Opened). FindsSoundIn view o) is own
+
+-- and of a store of either kind
+module _ (found : Either) (opened : Opened) (is : found ≡ eithers.Updates opened) where
+  pub updates_found : (state : State) (view : DiskView) → FoundEither state view found → Found state view opened
+  updates_found state view own = subst (λ (o : Either). FoundEither state view o) is own
+
+  pub updates_told : (content : Option (List ℕ)) → EitherTold content found
+      → IfTold content (RootTells opened.style opened.outdated opened.changes)
+  updates_told content own = subst (λ (o : Either). EitherTold content o) is own
+
+  pub updates_sound : (view : DiskView) → FindsSoundEither view found → FindsSound view opened
+  updates_sound view own = subst (λ (o : Either). FindsSoundEither view o) is own
 
 -- and of nothing that was found, that the store is that of a follower
 module _ (found : Option Opened) (is : found ≡ None) where

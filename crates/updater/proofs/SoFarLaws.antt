@@ -141,7 +141,7 @@ module _ (start done : Progress) (next : ℕ) (old : Before) (files : FilesView)
     leads_file found read rest ending comes = inr (found, (λ bytes told. read.accepted bytes (as_before ∙ told)), comes)
 
     -- or the run ends in it
-    leaves_file : (fault : Fault) → IsReadAlone file files new → HasCause old (world new disk output) (Some fault)
+    pub leaves_file : (fault : Fault) → IsReadAlone file files new → HasCause old (world new disk output) (Some fault)
         → Leaves start (at_file file done fault) old (world new disk output)
     leaves_file fault alone cause = record {
       output = head.so_far.output;
@@ -172,6 +172,8 @@ module _ (start done : Progress) (next : ℕ) (old : Before) (files : FilesView)
         (refused (faults.BadQuery own line cause) why.0 (λ bytes told. why.1 bytes (as_before ∙ told)) refl, tt)
     stops_why rest (faults.Limit which value) why alone =
         (refused (faults.Limit which value) why.0 (λ bytes told. why.1 bytes (as_before ∙ told)) refl, tt)
+    stops_why rest (faults.BadFeed own line cause) why alone = absurd why.0
+    stops_why rest (faults.Gap own have got) why alone = absurd why.0
     stops_why rest faults.Usage why alone = absurd why.0
     stops_why rest faults.NotFormatted why alone = absurd why.0
     stops_why rest faults.NotEmpty why alone = absurd why.0
@@ -208,7 +210,7 @@ module _ (start done : Progress) (next : ℕ) (old : Before) (files : FilesView)
     };
   }
 
-  leaves_text : (text : List ℕ) (new : SinkView) → AppendsPrefix output.taken new.taken text → output.faults ≤ new.faults
+  pub leaves_text : (text : List ℕ) (new : SinkView) → AppendsPrefix output.taken new.taken text → output.faults ≤ new.faults
       → Rose output.faults new.faults → Leaves start (at_text text done faults.WriteFault) old (world files disk new)
   leaves_text text new front later rose = record {
     output = took_half old.taken output.taken new.taken done.written text head.so_far.output front;

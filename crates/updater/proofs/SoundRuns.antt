@@ -6,7 +6,7 @@ use Rattle.outside.specs.Inputs.{FilesView}
 use Rattle.osm_base.specs.declared.bounds.limits.LimitNumbers.{LimitNumbers}
 use Rattle.page_journal.specs.declared.fault.StoreFault.TheVariants as stores
 use Rattle.update_flow.specs.Handle.{Handle, is_old, limits_of}
-use Rattle.update_flow.specs.Refusals.{MayAnswer, MayLook}
+use Rattle.update_flow.specs.Refusals.{MayAnswer, MayLook, OrBreaks}
 use Rattle.update_flow.specs.Sound.{IsSound}
 use Rattle.update_flow.specs.SoundTurns.{IsOpenSound, IsSoundlyOpen, LooksSound, TakesSound}
 use Rattle.delta_feed.specs.declared.block.Block.TheVariants as blocks
@@ -29,7 +29,7 @@ look_bad (imported held) page may = absurd (cc (may))
 look_bad (outdated held) page may = absurd (cc (may))
 look_bad (following held) page may = absurd (cc (may))
 
-step_bad : (limits : LimitNumbers) (state : State) (step : Step) (page : ℕ)
+pub step_bad : (limits : LimitNumbers) (state : State) (step : Step) (page : ℕ)
     → MayAnswer limits state step (Some (flow.Store (stores.BadStore page))) → ⊥
 step_bad limits formatted (Import style bytes buckets entries) page may = absurd (cc (may))
 step_bad limits formatted (Append bounds change) page may = absurd (cc (may))
@@ -52,6 +52,11 @@ step_bad limits (following held) (Append bounds change) page may = may
 step_bad limits (following held) Clear page may = may
 step_bad limits (following held) Migrate page may = may
 step_bad limits (following held) (Follow block) page may = absurd (cc (may))
+
+pub opening_bad : (fault : FlowFault) (page : ℕ) → fault ≡ flow.Store (stores.BadStore page) → OrBreaks (Some fault) (Some fault ≡ None) → ⊥
+opening_bad fault page is answer = absurd
+    (let none : Some (flow.Store (stores.BadStore page)) ≡ None = subst (λ (own : FlowFault). OrBreaks (Some own) (Some own ≡ None)) is answer in
+    cc)
 
 -- Where a call of an open sound store ends the run.
 

@@ -16,7 +16,8 @@ use Rattle.update_flow.proofs.Needs.{fits_as, needs_from, stood_grown, stood_sta
 use Rattle.update_flow.specs.Calls.{IsForImported}
 use Rattle.update_flow.specs.Refusals.{IsCallFault, MayTell, IsNoDiskFault, MayAnswer, MayLook, OrFull, Refuses, RefusesLook}
 use Rattle.update_flow.specs.Stands.{StandsFor}
-use Rattle.update_flow.specs.State.{Holding, State, formatted, imported, outdated, following, Step, Import, Append, Clear, Migrate, Follow, after, was_old}
+use Rattle.delta_feed.specs.declared.block.Block.TheVariants as blocks
+use Rattle.update_flow.specs.State.{State, formatted, imported, outdated, following, Step, Import, Append, Clear, Migrate, Follow, after, was_old}
 use Rattle.update_flow.specs.Handle.{Handle, IsOpen, Looks, Shows, Takes, is_imported, is_old, is_whole, limits_of, view_of}
 use Rattle.update_flow.specs.Updater.{StaysOpen, handle_of}
 use Rattle.update_flow.specs.declared.updater.Updater.{Updater}
@@ -84,10 +85,13 @@ refused_so stays = record {
 -- a store of this state is ready for a call
 abbrev pub Suits : State → Option Step → Type 0
 Suits formatted (Some (Import style bytes buckets entries)) = Unit {0}
+Suits formatted (Some (Follow (blocks.Full version style_bytes style rows))) = Unit {0}
 Suits formatted _ = ⊥
 Suits (imported held) call = IsForImported call
 Suits (outdated held) (Some Migrate) = Unit {0}
 Suits (outdated held) _ = ⊥
+Suits (following held) (Some (Follow block)) = Unit {0}
+Suits (following held) None = Unit {0}
 Suits (following held) _ = ⊥
 
 -- so it is not refused because nothing was imported, or something was
@@ -99,8 +103,11 @@ never_unbegun formatted None before fault suits shows told unbegun is = absurd s
 never_unbegun formatted (Some (Append bounds change)) before fault suits shows told unbegun is = absurd suits
 never_unbegun formatted (Some Clear) before fault suits shows told unbegun is = absurd suits
 never_unbegun formatted (Some Migrate) before fault suits shows told unbegun is = absurd suits
-never_unbegun formatted (Some (Follow block)) before fault suits shows told unbegun is = absurd suits
-never_unbegun (following held) call before fault suits shows told unbegun is = absurd suits
+never_unbegun formatted (Some (Follow (blocks.Full version style_bytes style rows))) before fault suits shows told unbegun is =
+    subst (MayTell (Some (Follow (blocks.Full version style_bytes style rows)))) is told
+never_unbegun formatted (Some (Follow (blocks.Delta delta))) before fault suits shows told unbegun is = absurd suits
+never_unbegun (following held) call before fault suits shows told unbegun is =
+    absurd (let two : true ≡ false = sym shows.imported_is ∙ unbegun is in cc)
 never_unbegun (imported held) call before fault suits shows told unbegun is =
     absurd (let two : true ≡ false = sym shows.imported_is ∙ unbegun is in cc)
 never_unbegun (outdated held) call before fault suits shows told unbegun is =
@@ -123,7 +130,12 @@ never_begun (outdated held) (Some (Import style bytes buckets entries)) before f
 never_begun (outdated held) (Some (Append bounds change)) before fault suits shows told begun is = absurd suits
 never_begun (outdated held) (Some Clear) before fault suits shows told begun is = absurd suits
 never_begun (outdated held) (Some (Follow block)) before fault suits shows told begun is = absurd suits
-never_begun (following held) call before fault suits shows told begun is = absurd suits
+never_begun (following held) (Some (Follow block)) before fault suits shows told begun is = subst (MayTell (Some (Follow block))) is told
+never_begun (following held) None before fault suits shows told begun is = subst (MayTell None) is told
+never_begun (following held) (Some (Import style bytes buckets entries)) before fault suits shows told begun is = absurd suits
+never_begun (following held) (Some (Append bounds change)) before fault suits shows told begun is = absurd suits
+never_begun (following held) (Some Clear) before fault suits shows told begun is = absurd suits
+never_begun (following held) (Some Migrate) before fault suits shows told begun is = absurd suits
 
 kind_of : (call : Option Step) (fault : FlowFault) → IsCallFault fault → (fault ≡ flow.Store stores.Broken → ⊥)
     → (fault ≡ flow.OldFormat → ⊥)
@@ -304,9 +316,9 @@ module _ (start done : Progress) (state : State) (next : ℕ) (old : Before) (fi
           either)
 
       -- and is done
-      stepped_head : IsOpen (after state step) now → Grows standard (after state step) (view_of before) (view_of now)
+      stepped_head : IsOpen (after state step) now → HasStood standard old.content (view_of now)
           → limits_of now ≡ limits_of before → IsHead start (committed step kept done) (after state step) next old files now output
-      stepped_head rests grown same = record {
+      stepped_head rests stood same = record {
         here = record {
           all = refl;
           cut_within = omega (arith, here.cut_within, length_more kept.history.steps step);
@@ -315,8 +327,7 @@ module _ (start done : Progress) (state : State) (next : ℕ) (old : Before) (fi
         };
         vague = λ e. absurd (cc);
         limits = same ∙ head.limits;
-        stood = λ _. stood_grown standard old.content state (after state step) (view_of before)
-            (view_of now) here.rests.at_rest rests.at_rest grown;
+        stood = λ _. stood;
         unread = head.unread;
         so_far = store_leaves (keeps (with_step step kept)) done.cut None (
           (λ left out. subst (λ (bytes : List ℕ). IsOneOf (with_step step kept) bytes) (sym (rests.at_rest.only left out))
@@ -352,6 +363,9 @@ pub record IsStepped (start done : Progress) (state : State) (next : ℕ) (old :
   pub head : IsHead start further (after state step) next old files updater output
   pub leads : (rest : Course) (ending : Ending) → Comes old rest further ending → Comes old (commits step rest) done ending
   pub certain : IsCertain further.store → IsCertain done.store
+  -- whatever goes on from here, it is what comes of the step
+  pub how : ((done.store ≡ unknown) × (further ≡ done))
+      ⊎ ((kept : Kept) × (done.store ≡ keeps kept) × (further ≡ committed step kept done) × MayTake old (state_after kept.history) step)
 
 module _ (start done : Progress) (state : State) (next : ℕ) (old : Before) (files : FilesView) (before now : Handle) (output : SinkView)
     (head : IsHead start done state next old files before output) where
@@ -379,7 +393,8 @@ module _ (start done : Progress) (state : State) (next : ℕ) (old : Before) (fi
   certain_here kept is = subst (λ (store : Standing). IsCertain store) (sym is) tt
 
   -- a step is taken
-  module _ (step : Step) (writes : Writes state step) (takes : (own : State) → IsOpen own before → Takes own step None before now)
+  module _ (step : Step) (moved : Writes state step ⊎ Stays (view_of before) (view_of now))
+      (takes : (own : State) → IsOpen own before → Takes own step None before now)
       (shows : Shows state before → Shows (after state step) now)
       (sound : is_whole now ≡ is_whole before) (same : limits_of now ≡ limits_of before)
       (cause : HasFlowCause None (view_of before) (view_of now)) where
@@ -397,6 +412,7 @@ module _ (start done : Progress) (state : State) (next : ℕ) (old : Before) (fi
           ⊎ (MayTake old (state_after kept.history) step × Comes old rest (committed step kept done) ending))
           (IsRefusedFor (IsStepFault (Some step)) done ending ⊎ Comes old rest done ending)) (sym is) (inr comes));
       certain = λ certain. certain;
+      how = inl (is, refl);
     }
     taken_by (keeps kept) is here =
         let own = takes state here.rests in
@@ -405,13 +421,16 @@ module _ (start done : Progress) (state : State) (next : ℕ) (old : Before) (fi
         let need : IsOfNeed old state step None =
         λ writes. needed_here (limits_of before) before head.limits old.content
         (head.stood (certain_here kept is)) None state step here.rests (own.needs writes) in
-        let grown : Grows standard (after state step) (view_of before) (view_of now) =
-        subst (λ (limits : LimitNumbers). Grows limits (after state step) (view_of before) (view_of now)) head.limits
-        (own.grown writes refl) in
+        let stood : HasStood standard old.content (view_of now) = ⊎_elim
+        (λ (writes : Writes state step). stood_grown standard old.content state (after state step) (view_of before) (view_of now)
+        here.rests.at_rest (own.done refl).at_rest
+        (subst (λ (limits : LimitNumbers). Grows limits (after state step) (view_of before) (view_of now)) head.limits (own.grown writes refl)))
+        (λ (only : Stays (view_of before) (view_of now)). stood_stays standard old.content (view_of before) (view_of now) only
+        (head.stood (certain_here kept is))) moved in
         record {
           further = committed step kept done;
           head = stepped_head start done state next old files before now output head kept is here cause.later step own.moments
-              (own.done refl) grown same;
+              (own.done refl) stood same;
           leads = λ rest ending comes. inr (subst (λ (store : Standing). ByStore store
               (λ kept. (ending ≡ at (in_doubt step kept done) (Some faults.DiskFault))
               ⊎ IsRefusedFor (IsRefusal old (state_after kept.history) step) done ending
@@ -419,10 +438,17 @@ module _ (start done : Progress) (state : State) (next : ℕ) (old : Before) (fi
               (IsRefusedFor (IsStepFault (Some step)) done ending ⊎ Comes old rest done ending)) (sym is)
               (inr (inr (subst (λ (own : State). MayTake old own step) (sym here.stands) (answer, need), comes))));
           certain = λ _. subst (λ (store : Standing). IsCertain store) (sym is) tt;
+          how = inr (kept, is, refl, subst (λ (own : State). MayTake old own step) (sym here.stands) (answer, need));
         }
 
-    pub taken : IsStepped start done state next old files now output step
-    taken = taken_by done.store refl head.here
+    pub taken_so : IsStepped start done state next old files now output step
+    taken_so = taken_by done.store refl head.here
+
+  -- and writes
+  pub taken : (step : Step) → Writes state step → ((own : State) → IsOpen own before → Takes own step None before now)
+      → (Shows state before → Shows (after state step) now) → is_whole now ≡ is_whole before → limits_of now ≡ limits_of before
+      → HasFlowCause None (view_of before) (view_of now) → IsStepped start done state next old files now output step
+  taken step writes takes shows sound same cause = taken_so step (inl writes) takes shows sound same cause
 
   -- a step is refused
   module _ (step : Step) (suits : Suits state (Some step)) (fault : FlowFault)
@@ -523,29 +549,42 @@ module _ (start done : Progress) (state : State) (next : ℕ) (old : Before) (fi
     pub refused_step : Goal
     refused_step = refused_by done.store refl head.here
 
-module _ (start done : Progress) (held : Holding) (next : ℕ) (old : Before) (files : FilesView) (before now : Handle) (output : SinkView)
-    (head : IsHead start done (imported held) next old files before output) where
+-- a store that may be looked at is none of the old format, and no look is refused for its state
+seen_today : (state : State) → Suits state None → was_old state ≡ false
+seen_today formatted suits = absurd suits
+seen_today (imported held) suits = refl
+seen_today (outdated held) suits = absurd suits
+seen_today (following held) suits = refl
+
+never_refuses : (state : State) → Suits state None → (fault : FlowFault) → RefusesLook state (Some fault) → ⊥
+never_refuses formatted suits fault refuses = absurd suits
+never_refuses (imported held) suits fault refuses = absurd (let none : Some fault ≡ None = refuses in cc)
+never_refuses (outdated held) suits fault refuses = absurd suits
+never_refuses (following held) suits fault refuses = absurd (let none : Some fault ≡ None = refuses in cc)
+
+module _ (start done : Progress) (state : State) (next : ℕ) (old : Before) (files : FilesView) (before now : Handle) (output : SinkView)
+    (head : IsHead start done state next old files before output) where
   -- the store is looked at
   module _ (looked : (own : State) → IsOpen own before → Looks own None before now)
-      (shows : Shows (imported held) before → Shows (imported held) now)
+      (shows : Shows state before → Shows state now)
       (sound : is_whole now ≡ is_whole before) (same : limits_of now ≡ limits_of before)
       (cause : HasFlowCause None (view_of before) (view_of now)) where
-    looked_by : (store : Standing) → done.store ≡ store → IsHere store done.cut (imported held) before
-        → IsHead start done (imported held) next old files now output
+    looked_by : (store : Standing) → done.store ≡ store → IsHere store done.cut state before
+        → IsHead start done state next old files now output
     looked_by unused is here = absurd here
     looked_by half_made is here = absurd here
-    looked_by unknown is here = vague_head start done (imported held) next old files before now output head is cause.later (imported held)
+    looked_by unknown is here = vague_head start done state next old files before now output head is cause.later state
         (record { shows = shows here.shows; whole = sound ∙ here.whole }) same
     looked_by (keeps kept) is here =
-        let own = looked (imported held) here.rests in
-        rested_head start done (imported held) next old files before now output head kept is here cause.later
+        let own = looked state here.rests in
+        rested_head start done state next old files before now output head kept is here cause.later
         (own.stays tt) own.moments own.only same
 
-    pub looked_at : IsHead start done (imported held) next old files now output
+    pub looked_at : IsHead start done state next old files now output
     looked_at = looked_by done.store refl head.here
 
   -- a look is refused
-  module _ (fault : FlowFault) (looked : (own : State) → IsOpen own before → Looks own (Some fault) before now)
+  module _ (suits : Suits state None) (fault : FlowFault) (looked : (own : State) → IsOpen own before → Looks own (Some fault) before now)
       (so : IsRefusedSo None fault before now) (rest : Course) where
     abbrev Unlooked : Type 0
     Unlooked = GoesOn (looks rest) start done (Some (flow_fault fault)) old (world files (view_of now) output)
@@ -555,14 +594,14 @@ module _ (start done : Progress) (held : Holding) (next : ℕ) (old : Before) (f
       at done (Some faults.DiskFault),
       ap Some (sym (ap flow_fault own)),
       inl (inl refl),
-      vague_leaves start done (imported held) next old files before now output head is so.cause.later (Some faults.DiskFault)
-          (rose_disk start done (imported held) next old files before now output head fault own so.cause),
+      vague_leaves start done state next old files before now output head is so.cause.later (Some faults.DiskFault)
+          (rose_disk start done state next old files before now output head fault own so.cause),
     )
     unlooked_vague is (of_memory own) = (
       at done (Some faults.OutOfMemory),
       ap Some (sym (ap flow_fault own)),
       inl (inr refl),
-      vague_leaves start done (imported held) next old files before now output head is so.cause.later (Some faults.OutOfMemory) tt,
+      vague_leaves start done state next old files before now output head is so.cause.later (Some faults.OutOfMemory) tt,
     )
     unlooked_vague is (plain own) = (
       at done (Some (flow_fault fault)),
@@ -570,39 +609,39 @@ module _ (start done : Progress) (held : Holding) (next : ℕ) (old : Before) (f
       inr (inl (subst (λ (store : Standing).
           IfUnknown store (IsRefusedFor (IsStepFault None) done (at done (Some (flow_fault fault))))) (sym is)
           (fault, own.step, refl))),
-      vague_leaves start done (imported held) next old files before now output head is so.cause.later (Some (flow_fault fault))
+      vague_leaves start done state next old files before now output head is so.cause.later (Some (flow_fault fault))
           (own.causeless old (world files (view_of now) output)),
     )
 
-    unlooked_known : (kept : Kept) → done.store ≡ keeps kept → IsRested kept done.cut (imported held) before → Kinds None fault → Unlooked
+    unlooked_known : (kept : Kept) → done.store ≡ keeps kept → IsRested kept done.cut state before → Kinds None fault → Unlooked
     unlooked_known kept is here (of_disk own) = (
       at done (Some faults.DiskFault),
       ap Some (sym (ap flow_fault own)),
       inl (inl refl),
-      failed_leaves start done (imported held) next old files before now output head kept is here so.cause.later
-          (looked (imported held) here.rests).moments
-          (rose_disk start done (imported held) next old files before now output head fault own so.cause),
+      failed_leaves start done state next old files before now output head kept is here so.cause.later
+          (looked state here.rests).moments
+          (rose_disk start done state next old files before now output head fault own so.cause),
     )
     unlooked_known kept is here (of_memory own) =
-        let rested = (looked (imported held) here.rests).stays (subst (λ (own : FlowFault). IsNoDiskFault (Some own)) (sym own) tt) in (
+        let rested = (looked state here.rests).stays (subst (λ (own : FlowFault). IsNoDiskFault (Some own)) (sym own) tt) in (
           at done (Some faults.OutOfMemory),
           ap Some (sym (ap flow_fault own)),
           inl (inr refl),
-          rested_leaves start done (imported held) next old files before now output head kept is here so.cause.later
-              (Some faults.OutOfMemory) rested.at_rest (looked (imported held) here.rests).moments tt,
+          rested_leaves start done state next old files before now output head kept is here so.cause.later
+              (Some faults.OutOfMemory) rested.at_rest (looked state here.rests).moments tt,
         )
     unlooked_known kept is here (plain own) =
-        absurd (let none : Some fault ≡ None = own.looks_so (imported held) (looked (imported held) here.rests).answer in cc)
+        absurd (never_refuses state suits fault (own.looks_so state (looked state here.rests).answer))
 
     look_kind : Kinds None fault
     look_kind =
-        let shows = shows_here done.store done.cut (imported held) before head.here in
-        kind_of None fault so.alone (not_broken start done (imported held) next old files before now output head fault so.broken)
-        (not_outdated start done (imported held) next old files before now output head refl fault so.not_old)
-        (never_unbegun (imported held) None before fault tt shows so.told so.unbegun)
-        (never_begun (imported held) None before fault tt shows so.told so.begun) so.told
+        let shows = shows_here done.store done.cut state before head.here in
+        kind_of None fault so.alone (not_broken start done state next old files before now output head fault so.broken)
+        (not_outdated start done state next old files before now output head (seen_today state suits) fault so.not_old)
+        (never_unbegun state None before fault suits shows so.told so.unbegun)
+        (never_begun state None before fault suits shows so.told so.begun) so.told
 
-    unlooked_by : (store : Standing) → done.store ≡ store → IsHere store done.cut (imported held) before → Unlooked
+    unlooked_by : (store : Standing) → done.store ≡ store → IsHere store done.cut state before → Unlooked
     unlooked_by unused is here = absurd here
     unlooked_by half_made is here = absurd here
     unlooked_by unknown is here = unlooked_vague is look_kind

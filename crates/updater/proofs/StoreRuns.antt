@@ -17,7 +17,7 @@ use Rattle.run_promise.specs.declared.fault.Fault.{Fault}
 use Rattle.run_promise.specs.declared.fault.Fault.TheVariants as faults
 use Rattle.run_promise.specs.Comes.{AreTold, IsCertain}
 use Rattle.run_promise.specs.Course.{Course, ends, reads, looks, writes}
-use Rattle.run_promise.specs.Courses.{Onward, clears, exports, finished, if_blank, if_formatted, if_imported}
+use Rattle.run_promise.specs.Courses.{Onward, clears, export_from, exports, finished, if_blank, if_formatted, if_imported}
 use Rattle.updater.specs.FileReads.{IsRead, IsUnread}
 use Rattle.run_promise.specs.Faults.{flow_fault}
 use Rattle.updater.specs.Heads.{GoesOn, IsHead, IsHere, Leads}
@@ -29,6 +29,22 @@ use Rattle.updater.proofs.VersionRuns.{goes_back}
 
 pub true_not : (P : Type 0) → true ≡ false → P
 true_not P is = absurd (cc)
+
+-- what tells the same tells what is so of the same state
+pub tells_still : (state : State) (before now : Handle) → TellsAs before now → Shows state before → Shows state now
+tells_still state before now tells shows = record {
+  changes_are = tells.changes_same ∙ shows.changes_are;
+  imported_is = tells.imported_same ∙ shows.imported_is;
+  old_is = tells.old_same ∙ shows.old_is;
+  style_is = tells.style_same ∙ shows.style_is;
+  follower_is = tells.follower_same ∙ shows.follower_is;
+}
+
+-- what comes behind a look comes of it
+pub behind_look : (rest : Course) (start done : Progress) (fault : Option Fault) (old : Before) (new : World)
+    → GoesOn rest start done fault old new → GoesOn (looks rest) start done fault old new
+behind_look rest start done fault old new goes =
+    goes_back (looks rest) rest start done done fault old new goes (λ ending comes. inr (inr comes))
 
 -- where nothing comes behind, the next head is the end
 pub leads_ends : (course : Onward → Course) (fault : Option Fault) (start done : Progress) (next : ℕ) (old : Before) (files : FilesView)
@@ -119,6 +135,15 @@ module _ (start done : Progress) (next : ℕ) (old : Before) (files : FilesView)
   if_there rest fault new (outdated held) head current own is goes = true_not _ (sym (shown (outdated held) head).old_is ∙ current)
   if_there rest fault new (following held) head current own is goes = true_not _ (sym (shown (following held) head).follower_is ∙ own)
 
+  -- a table of a store that follows no other
+  pub exports_own : (table : List ℕ) (state : State) → Here state → is_follower updater ≡ false → (fault : Option Fault) (new : World)
+      → GoesOn (if_imported (λ held. exports held (table_of held.style.tables table)) state) start done fault old new
+      → GoesOn (export_from table state) start done fault old new
+  exports_own table formatted head own fault new goes = goes
+  exports_own table (imported held) head own fault new goes = goes
+  exports_own table (outdated held) head own fault new goes = goes
+  exports_own table (following held) head own fault new goes = true_not _ (sym (shown (following held) head).follower_is ∙ own)
+
   -- a file is read first, and then the run goes on
   module _ {A : Type 0} (Reads : List ℕ → Result A Fault → Type 0) (rest : A → Course) (state : State) (head : Here state)
       (read : FilesView) where
@@ -157,16 +182,33 @@ module _ (start done : Progress) (next : ℕ) (old : Before) (files : FilesView)
         (goes (past_text start done state next old files updater output head text new all cause.later))
         (λ ending comes. inr (text, fits, inr comes))
 
--- what was imported is certain where a store is
-pub held_certain : (done : Progress) (held : Holding) (updater : Handle) → IsHere done.store done.cut (imported held) updater
-    → IsCertain done.store → IsOpen (imported held) updater
-held_certain done held updater here certain = by done.store here certain
+  -- or at the end
+  pub text_ends : (state : State) → Here state → (Fits : List ℕ → Type 0) (text : List ℕ) (new : SinkView)
+      (result : Result (Unit {0}) Fault) → (AreTold old done.read → IsCertain done.store → Fits text)
+      → OnOk result (Appends output.taken new.taken text) → OnErr result (AppendsPrefix output.taken new.taken text)
+      → IfErr result (λ fault. fault ≡ faults.WriteFault) → HasCauseOf output.faults new.faults result
+      → GoesOn (writes Fits ends) start done (result_err result) old (world files (view_of updater) new)
+  text_ends state head Fits text new (Ok value) fits all front alone cause =
+      told_text state head Fits ends text new fits all (record { later = cause.later; failed = tt }) None (world files (view_of updater) new)
+      (λ further. ends_here start (plus text done) state next old files updater new further)
+  text_ends state head Fits text new (Err fault) fits all front alone cause =
+      subst (λ (own : Fault). GoesOn (writes Fits ends) start done (Some own) old (world files (view_of updater) new)) (sym alone)
+      (untold_text state head Fits ends text new fits front (record { later = cause.later; failed = cause.failed }))
+
+-- what the store holds is certain where it is known
+pub open_certain : (done : Progress) (state : State) (updater : Handle) → IsHere done.store done.cut state updater
+    → IsCertain done.store → IsOpen state updater
+open_certain done state updater here certain = by done.store here certain
   where
-    by : (store : Standing) → IsHere store done.cut (imported held) updater → IsCertain store → IsOpen (imported held) updater
+    by : (store : Standing) → IsHere store done.cut state updater → IsCertain store → IsOpen state updater
     by unused here certain = absurd here
     by unknown here certain = absurd certain
     by (keeps kept) here certain = here.rests
     by half_made here certain = absurd here
+
+pub held_certain : (done : Progress) (held : Holding) (updater : Handle) → IsHere done.store done.cut (imported held) updater
+    → IsCertain done.store → IsOpen (imported held) updater
+held_certain done held updater here certain = open_certain done (imported held) updater here certain
 
 -- the store is looked at, and what it holds is written
 module _ (start done : Progress) (held : Holding) (next : ℕ) (old : Before) (files : FilesView) (before now : Handle) (output : SinkView)
@@ -174,26 +216,19 @@ module _ (start done : Progress) (held : Holding) (next : ℕ) (old : Before) (f
   pub look_refused : (fault : FlowFault) → ((own : State) → IsOpen own before → Looks own (Some fault) before now)
       → IsRefusedSo None fault before now → (rest : Course)
       → GoesOn (looks rest) start done (Some (flow_fault fault)) old (world files (view_of now) output)
-  look_refused fault looked so rest = unlooked start done held next old files before now output head fault looked so rest
+  look_refused fault looked so rest = unlooked start done (imported held) next old files before now output head tt fault looked so rest
 
   pub look_done : ((own : State) → IsOpen own before → Looks own None before now) → TellsAs before now → is_whole now ≡ is_whole before
       → limits_of now ≡ limits_of before → HasFlowCause None (view_of before) (view_of now)
       → IsHead start done (imported held) next old files now output
-  look_done looked tells sound same cause = looked_at start done held next old files before now output head looked
-      (λ shows. record {
-        changes_are = tells.changes_same ∙ shows.changes_are;
-        imported_is = tells.imported_same ∙ shows.imported_is;
-        old_is = tells.old_same ∙ shows.old_is;
-        style_is = tells.style_same ∙ shows.style_is;
-        follower_is = tells.follower_same ∙ shows.follower_is;
-      }) sound same cause
+  look_done looked tells sound same cause = looked_at start done (imported held) next old files before now output head looked
+      (tells_still (imported held) before now tells) sound same cause
 
   -- the text of what was looked at
   module _ (Fits : List ℕ → Type 0) (rest : Course) (sure : IsHead start done (imported held) next old files now output) where
     looks_on : (fault : Option Fault) (new : World) → GoesOn (writes Fits rest) start done fault old new
         → GoesOn (looks (writes Fits rest)) start done fault old new
-    looks_on fault new goes = goes_back (looks (writes Fits rest)) (writes Fits rest) start done done fault old new goes
-        (λ ending comes. inr (inr comes))
+    looks_on fault new goes = behind_look (writes Fits rest) start done fault old new goes
 
     pub look_short : GoesOn (looks (writes Fits rest)) start done (Some faults.OutOfMemory) old (world files (view_of now) output)
     look_short = looks_on (Some faults.OutOfMemory) (world files (view_of now) output)
@@ -223,10 +258,9 @@ module _ (start done : Progress) (held : Holding) (next : ℕ) (old : Before) (f
       → OnOk result (Appends output.taken new.taken text) → OnErr result (AppendsPrefix output.taken new.taken text)
       → IfErr result (λ fault. fault ≡ faults.WriteFault) → HasCauseOf output.faults new.faults result
       → GoesOn (looks (writes Fits ends)) start done (result_err result) old (world files (view_of now) new)
-  look_ends Fits sure text new (Ok value) fits all front alone cause =
-      look_told Fits ends sure text new fits all cause.later None (world files (view_of now) new)
-      (λ head. ends_here start (plus text done) (imported held) next old files now new head)
-  look_ends Fits sure text new (Err fault) fits all front alone cause = look_untold Fits ends sure text new fault fits front alone cause
+  look_ends Fits sure text new result fits all front alone cause =
+      looks_on Fits ends sure (result_err result) (world files (view_of now) new)
+      (text_ends start done next old files now output (imported held) sure Fits text new result fits all front alone cause)
 
 -- the table that is asked for, by the style that the store tells
 module _ (start done : Progress) (held : Holding) (next : ℕ) (old : Before) (files : FilesView) (updater : Handle) (output : SinkView)

@@ -14,6 +14,7 @@ use Rattle.updater.specs.commands.Check as check
 use Rattle.updater.specs.commands.Demo as demo
 use Rattle.updater.specs.commands.Export as export
 use Rattle.updater.specs.commands.Feed as feed
+use Rattle.updater.specs.commands.Follow as follow
 use Rattle.updater.specs.commands.Import as import
 use Rattle.updater.specs.commands.Init as init
 use Rattle.updater.specs.commands.Lines as lines
@@ -24,12 +25,12 @@ use Rattle.updater.specs.commands.Replay as replay
 use Rattle.updater.specs.commands.Serve as serve
 use Rattle.updater.specs.commands.Tiles as tiles
 use Rattle.updater.specs.declared.words.Command.{Command}
-use Rattle.updater.specs.declared.words.Command.TheVariants.{Points, Lines, Init, Import, Append, Feed, Export, Tiles, Query, Serve}
+use Rattle.updater.specs.declared.words.Command.TheVariants.{Points, Lines, Init, Import, Append, Feed, Follow, Export, Tiles, Query, Serve}
 use Rattle.updater.specs.declared.words.Command.TheVariants.{Replay, Migrate, Check, Demo}
 use Rattle.updater.specs.declared.words.TheConstants.{MAX_WORDS}
 use Rattle.updater.specs.declared.forms.Words.{Words}
 use Rattle.run_promise.specs.CommandOf.{CommandOf, points_of, lines_of, init_of, import_of, append_of, export_of, tiles_of, query_of}
-use Rattle.run_promise.specs.CommandOf.{FilesFit, feed_of, serve_of, replay_of, migrate_of, check_of, demo_of}
+use Rattle.run_promise.specs.CommandOf.{FilesFit, feed_of, follow_of, serve_of, replay_of, migrate_of, check_of, demo_of}
 
 -- a command of the program, as contracts see it
 abbrev pub seen : Command → CommandOf
@@ -39,6 +40,7 @@ seen (Init store) = init_of store.now
 seen (Import store files buckets workers) = import_of store.now files buckets workers
 seen (Append store files ahead workers) = append_of store.now files ahead workers
 seen (Feed store files full workers) = feed_of store.now files full workers
+seen (Follow store files) = follow_of store.now files
 seen (Export store table) = export_of store.now table.now
 seen (Tiles store least clear) = tiles_of store.now least clear
 seen (Query store files) = query_of store.now files
@@ -88,6 +90,7 @@ named name options form place =
     if bytes_eq name (codes "import") then import.form options form place else
     if bytes_eq name (codes "append") then append.form options form place else
     if bytes_eq name (codes "feed") then feed.form options form place else
+    if bytes_eq name (codes "follow") then follow.form options form place else
     if bytes_eq name (codes "export") then export.form options form place else
     if bytes_eq name (codes "tiles") then tiles.form options form place else
     if bytes_eq name (codes "query") then query.form options form place else

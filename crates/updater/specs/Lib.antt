@@ -12,3 +12,4 @@ pub mod Number
 pub mod Options
 pub mod Versions
 pub mod Works
+pub mod Following

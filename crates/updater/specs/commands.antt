@@ -3,6 +3,7 @@ pub mod Check
 pub mod Demo
 pub mod Export
 pub mod Feed
+pub mod Follow
 pub mod Import
 pub mod Init
 pub mod Lines

@@ -4,6 +4,7 @@ pub mod check;
 pub mod demo;
 pub mod export;
 pub mod feed;
+pub mod follow;
 pub mod import;
 pub mod init;
 pub mod lines;

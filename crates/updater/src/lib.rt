@@ -18,6 +18,7 @@ mod blocks;
 mod commands;
 mod feeding;
 mod file_reads;
+mod following;
 mod forms;
 mod making;
 mod number;

@@ -14,6 +14,7 @@ use crate::commands::check::check;
 use crate::commands::demo::demo;
 use crate::commands::export::export;
 use crate::commands::feed::feed;
+use crate::commands::follow::follow;
 use crate::commands::import::import;
 use crate::commands::init::init;
 use crate::commands::lines::lines;
@@ -130,6 +131,7 @@ fn run_command<R: Threads + Wait + Sync, I: Inputs, D: Disk, S: Sink, G: Gate>(
             };
             feed(&hands, files, full, inputs, disk, out)
         }
+        Command::Follow { store: _, files } => follow(alloc, files, inputs, disk, out),
         Command::Export { store: _, table } => export(alloc, table, inputs, disk, out),
         Command::Tiles {
             store: _,

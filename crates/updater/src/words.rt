@@ -7,8 +7,8 @@ ghost use Rattle.run_promise.specs.CommandOf as promise;
 ghost use Rattle.updater.specs.Command as spec;
 
 use crate::commands::{
-    append, check, demo, export, feed, import, init, lines, migrate, points, query, replay, serve,
-    tiles,
+    append, check, demo, export, feed, follow, import, init, lines, migrate, points, query, replay,
+    serve, tiles,
 };
 use crate::forms::Words;
 use demo_map::Squares;
@@ -56,6 +56,11 @@ pub enum Command<'a> {
         files: Files,
         full: bool,
         workers: Workers,
+    },
+    /// The files of a feed, one after another, block by block, which a store follows.
+    Follow {
+        store: &'a str,
+        files: Files,
     },
     /// The rows of a table of a store.
     Export {
@@ -112,6 +117,7 @@ pub fn store_of(words: &[String]) -> Option<&str>
             | Command::Import { store, .. }
             | Command::Append { store, .. }
             | Command::Feed { store, .. }
+            | Command::Follow { store, .. }
             | Command::Export { store, .. }
             | Command::Tiles { store, .. }
             | Command::Query { store, .. }
@@ -187,6 +193,7 @@ fn named<'a>(name: &str, words: Words<'a>) -> Option<Command<'a>>
         "import" => import::form(words),
         "append" => append::form(words),
         "feed" => feed::form(words),
+        "follow" => follow::form(words),
         "export" => export::form(words),
         "tiles" => tiles::form(words),
         "query" => query::form(words),

@@ -1,4 +1,4 @@
-use Rattle.std.proofs.Common.{◌∙◌, refl}
+use Rattle.std.proofs.Common.{◌∙◌}
 use Rattle.update_flow.specs.Updater.{handle_of}
 use Rattle.delta_feed.specs.Text.{full_text}
 use Rattle.run_promise.proofs.FeedTexts.{full_is_block}

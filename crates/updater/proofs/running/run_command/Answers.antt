@@ -2,7 +2,7 @@ use Rattle.std.proofs.Common.{List, ℕ, refl, subst, sym}
 use Rattle.std.specs.Result.{result_err}
 use Rattle.updater.specs.declared.words.Command.{Command}
 use Rattle.run_promise.specs.CommandOf.{FilesFit, Names, points_of, lines_of, init_of, import_of, append_of, export_of, tiles_of, query_of}
-use Rattle.run_promise.specs.CommandOf.{feed_of, serve_of, replay_of, migrate_of, check_of, demo_of, no_store, new_store}
+use Rattle.run_promise.specs.CommandOf.{feed_of, follow_of, serve_of, replay_of, migrate_of, check_of, demo_of, no_store, new_store}
 use Rattle.updater.specs.Command.{seen}
 use Rattle.run_promise.specs.Courses.{course_of, demo_course, init_course, replay_course}
 use Rattle.run_promise.specs.Locality.{IsLocal}
@@ -129,6 +129,23 @@ returns-in-Feed g c =
           (λ (asked : List ℕ). g.I.Inputs.reads c.args.inputs.now asked c.feed.new.inputs) old new fault) (sym c.in-Feed.is) own;
       safe = subst (λ (own : Command). IsSafe (seen own) old new fault) (sym c.in-Feed.is)
           (runs_safe command (λ (asked : List ℕ). g.I.Inputs.reads c.args.inputs.now asked c.feed.new.inputs) old new fault own);
+    }
+
+pub returns-in-Follow : goal.returns-in-Follow
+returns-in-Follow g c =
+    let old = world (g.I.Inputs.view c.args.inputs.now) (g.D.Disk.view c.args.disk.now) (g.S.Sink.view c.args.out.now) in
+    let new = world (g.I.Inputs.view c.follow.new.inputs) (g.D.Disk.view c.follow.new.disk) (g.S.Sink.view c.follow.new.out) in
+    let fault = result_err c.follow.result in
+    let fits = subst (λ (own : Command). FilesFit (seen own)) c.in-Follow.is c.requires.fits in
+    let command = follow_of c.in-Follow.store.now c.in-Follow.files in
+    let own = runs_by command (λ (asked : List ℕ). g.I.Inputs.reads c.args.inputs.now asked c.follow.new.inputs) fault old new fits.least
+    c.follow.ensures.does.asked c.follow.ensures.does.goes (λ none. absurd (cc)) (λ not. absurd (not refl))
+    c.follow.ensures.does.unformatted tt tt (λ _. c.follow.ensures.does.trusted) in
+    record {
+      runs = subst (λ (own : Command). Runs (seen own)
+          (λ (asked : List ℕ). g.I.Inputs.reads c.args.inputs.now asked c.follow.new.inputs) old new fault) (sym c.in-Follow.is) own;
+      safe = subst (λ (own : Command). IsSafe (seen own) old new fault) (sym c.in-Follow.is)
+          (runs_safe command (λ (asked : List ℕ). g.I.Inputs.reads c.args.inputs.now asked c.follow.new.inputs) old new fault own);
     }
 
 pub returns-in-Export : goal.returns-in-Export
