@@ -31,6 +31,7 @@ usage: yilgartzu points KEY INPUT [CHANGE..]
        yilgartzu import [workers=N] [buckets=N] STORE STYLE INPUT
        yilgartzu append [ahead=N] [workers=N] STORE BOUNDS CHANGE..
        yilgartzu feed [workers=N] [full=yes] STORE BOUNDS [CHANGE..]
+       yilgartzu follow STORE FEED..
        yilgartzu export STORE TABLE
        yilgartzu tiles [clear=yes] STORE MINZOOM
        yilgartzu query STORE QUERIES
@@ -57,6 +58,9 @@ tables, and BOUNDS has the latitudes that bound the rows of tiles of a zoom.
   feed         append the change files, and write in place of each `version N` a
                block of what that change made of the tables; with full=yes a
                block of all tables comes first
+  follow       take the blocks of the files FEED, which `feed` has written, into a
+               store that was only made or that follows already, and write
+               `version N` behind each; `export` tells its tables
   export       write the rows of a table
   tiles        write the tiles that changes have made due, from MINZOOM to zoom
                16, as zoom/column/row; with clear=yes none is due afterwards
@@ -78,14 +82,16 @@ tables, and BOUNDS has the latitudes that bound the rows of tiles of a zoom.
 
 workers is 1 to 64 (4 where it is not given), readers 1 to 64 (2), ahead 0 to 8
 (0), buckets a power of two up to 65536 (1024). Options stand before all other
-words, and a word -- ends them. Status 0: done; 2: wrong words; 3: a line is wrong; 4: STYLE is; 5:
-BOUNDS is; 6: STORE is no store, is damaged, or is not in the state for this; 7: a
-file could not be read; 8: the output failed; 9: the disk of STORE failed; 10: a
-limit; 11: out of memory; 12: no such table, or a line of QUERIES is wrong.
+words, and a word -- ends them. Status 0: done; 2: wrong words; 3: a line is
+wrong; 4: STYLE is; 5: BOUNDS is; 6: STORE is no store, is damaged, or is not in
+the state for this; 7: a file could not be read; 8: the output failed; 9: the
+disk of STORE failed; 10: a limit; 11: out of memory; 12: no such table, or a
+line of QUERIES is wrong; 14: a block of FEED does not come next; 15: a line of
+FEED is wrong.
 ";
 
 /// The version, and the line of the kit that proves the program.
-const VERSION: &str = "yilgartzu 0.3.0 (rattle-kit-13f logic dac8208d650f15bf)\n";
+const VERSION: &str = "yilgartzu 0.4.0 (rattle-kit-13f logic dac8208d650f15bf)\n";
 
 /// The variable that says whether the program tells how far it is: `1`, where standard error is a terminal.
 const TELLS: &str = "YILGARTZU_PROGRESS";
