@@ -86,7 +86,8 @@ fn refused_or_not<R: Threads + Wait + Sync>(
     Ok(ended)
 }
 
-/// What is other than a check finds sound where a disk holds one of these, if anything. Of a store to be migrated it may tell that it is old.
+/// What is other than a check finds sound where a disk holds one of these, if anything. Of a store to be migrated it may tell that it is old,
+/// and of one that follows another that it does.
 fn other_left<R: Threads + Wait + Sync>(
     rt: &R,
     alloc: Global,
@@ -95,10 +96,9 @@ fn other_left<R: Threads + Wait + Sync>(
 ) -> Result<Option<String>, AllocError> {
     for bytes in left {
         let mut check = turn.checking(alloc)?;
-        let ended = if turn.is_migration() {
-            refused_or_not(rt, alloc, &mut check, bytes, 6, "old format")?
-        } else {
-            ended_of(rt, alloc, &check, bytes)?
+        let ended = match turn.unjudged() {
+            Some(fault) => refused_or_not(rt, alloc, &mut check, bytes, 6, fault)?,
+            None => ended_of(rt, alloc, &check, bytes)?,
         };
         if let Some(text) = &ended.other {
             return Ok(Some(format!(in alloc; "the check behind it: {text}")?));

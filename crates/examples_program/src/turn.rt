@@ -104,11 +104,12 @@ impl Turn {
         Ok(turn)
     }
 
-    /// Whether a store is migrated.
-    pub fn is_migration(&self) -> bool {
+    /// The line with which a check behind the run may be refused, if any: of a store to be migrated that it is old, of one that follows
+    /// another that it does.
+    pub fn unjudged(&self) -> Option<&'static str> {
         match self.words.first() {
-            Some(word) => word.as_str() == "migrate",
-            None => false,
+            Some(word) => unjudged_behind(word.as_str()),
+            None => None,
         }
     }
 
@@ -219,6 +220,15 @@ impl Turn {
             }
             _ => Ok(false),
         }
+    }
+}
+
+/// The line with which a check behind this command may be refused, if any.
+fn unjudged_behind(command: &str) -> Option<&'static str> {
+    match command {
+        "migrate" => Some("old format"),
+        "follow" => Some("follower"),
+        _ => None,
     }
 }
 
