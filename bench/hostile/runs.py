@@ -25,13 +25,15 @@ FORMS = {
     3: rf"malformed file \d+ line [1-9]\d* cause ([1-9]|1[0-2]|13 {KEY} {KEY})",
     4: rf"bad style file \d+ cause ([1-9]|10) part {PART}",
     5: r"bad bounds file \d+ line [1-9]\d*",
-    6: r"not empty|not formatted|not imported|already imported|old format|bad store page \d+",
+    6: r"not empty|not formatted|not imported|already imported|old format|follower|bad store page \d+",
     7: r"read fault file \d+",
     8: "write fault",
     9: "disk fault",
     10: rf"limit {LIMIT} value \d+",
     11: "out of memory",
     12: r"unknown table|bad query file \d+ line [1-9]\d* cause [1-4]",
+    14: r"gap file \d+ have \d+ got \d+",
+    15: r"bad feed file \d+ line [1-9]\d* cause [1-6]",
 }
 # The commands that tell each step as it is done, which stays where a later one is refused.
 STEPWISE = ("append", "serve", "replay")
@@ -119,13 +121,22 @@ def may_print(words, out):
         return re.fullmatch(rb"([0-9]+/[0-9]+/[0-9]+\n)+", out)
     if words[0] == "feed":
         return re.fullmatch(BLOCK + b"+", out)
+    if words[0] == "follow":
+        versions = versions_in(out)
+        return versions is not None and versions == sorted(versions)
     return words[0] in STEPWISE and are_versions(out)
+
+
+def versions_in(out):
+    """The versions that an output tells, in lines; None where it is something else."""
+    numbers = re.findall(rb"version (0|[1-9]\d*)\n", out)
+    return list(map(int, numbers)) if b"".join(b"version %s\n" % it for it in numbers) == out else None
 
 
 def are_versions(out):
     """Whether an output is lines of versions, each one more than the one before."""
-    numbers = re.findall(rb"version (0|[1-9]\d*)\n", out)
-    return b"".join(b"version %s\n" % it for it in numbers) == out and all(int(b) == int(a) + 1 for a, b in zip(numbers, numbers[1:]))
+    numbers = versions_in(out)
+    return numbers is not None and all(b == a + 1 for a, b in zip(numbers, numbers[1:]))
 
 
 def keep(folder, name, finding, log):

@@ -67,9 +67,9 @@ class Image:
         self.read_directories()
         # What stands in the root is looked at behind the directories.
         fields = self.state, self.format, bool(self.buckets)
-        if fields not in ((0, 1, False), (1, 2, True), (1, 1, True)) or self.state and self.changes > LAST_CHANGE:
+        if fields not in ((0, 1, False), (1, 2, True), (1, 1, True), (2, 2, True)) or self.state and self.changes > LAST_CHANGE:
             raise Bad(1, "the fields of the root")
-        self.is_old = (self.state, self.format) == (1, 1)
+        self.is_old, self.is_follower = (self.state, self.format) == (1, 1), self.state == 2
 
     def read(self, is_style=lambda text: True):
         """All loads in their order, the style of an imported store first, and then the pages that are left over."""

@@ -173,6 +173,8 @@ class Kind:
             if image.is_old:
                 style = image.chain(1, image.root(1))
                 return ("old format", None, "") if style == base.image.texts[1] else None
+            if image.is_follower:
+                return "follower", None, ""
             image.read(self.reads_style)
         except stored.NotFormatted:
             return "not formatted", None, "mark or length"

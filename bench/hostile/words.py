@@ -7,14 +7,14 @@ from runs import Finding
 COMMANDS = {
     "points": (2, True, ()), "lines": (2, True, ()), "init": (1, False, ()), "migrate": (1, False, ()), "check": (1, False, ()),
     "import": (3, False, ("workers", "buckets")), "append": (3, True, ("ahead", "workers")), "export": (2, False, ()),
-    "feed": (2, True, ("workers", "full")),
+    "feed": (2, True, ("workers", "full")), "follow": (2, True, ()),
     "tiles": (2, False, ("clear",)), "query": (2, False, ()), "serve": (3, True, ("workers", "readers")),
     "replay": (4, True, ("workers",)),
 }
 FORMS = {
     "points": ("amenity", "town.opl"), "lines": ("highway", "town.opl"), "init": ("new",), "migrate": ("store",), "check": ("store",),
     "import": ("new", "style", "town.opl"), "append": ("store", "rows", "change.opl"), "export": ("store", "roads"),
-    "feed": ("store", "rows"),
+    "feed": ("store", "rows"), "follow": ("new", "all.feed"),
     "tiles": ("store", "3"), "query": ("store", "asked"), "serve": ("store", "rows", "asked"),
     "replay": ("new", "style", "rows", "town.opl"),
 }
@@ -40,6 +40,7 @@ class Kind:
         runs.ask("init", "store", may=(0,))
         runs.ask("import", "buckets=4", "store", "style", "town.opl", may=(0,))
         self.files |= {"store": (runs.room / "store").read_bytes()}
+        self.files |= {"all.feed": runs.ask("feed", "full=yes", "store", "rows", may=(0,)).out}
         # A program of before the command takes it for no word of its own.
         self.has_check = runs.ask("check", "store").status == 0
 
