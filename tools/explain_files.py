@@ -133,6 +133,7 @@ MARKS = (
     (rb"\s*\{", "json"),
     (rb"-?\d{1,10}\r?\n(-?\d|$)", "rows"),
     (rb"(count|row|box) ", "queries"),
+    (rb"(full|delta) \d", "feed"),
 )
 
 # What stands for each in a sentence.
@@ -155,6 +156,7 @@ KINDS = {
     "style": "is a style",
     "rows": "is a boundary table",
     "queries": "is a file of queries",
+    "feed": "is a feed",
     "empty": "is empty",
     "folder": "is a folder",
     "pipe": "is a pipe or a device",

@@ -11,7 +11,7 @@ import stat
 
 from explain_files import KINDS, counted, head_of, kind_of, listed, megabytes, name, opened, quoted, shown
 from explain_words import order_hint
-from store_file import CHANGES, FORMAT, HOME, MARK, PAGE, STATE, STYLE_CHAIN, Fault, Pages, chain, is_open, number
+from store_file import CHANGES, FOLLOWING, FORMAT, HOME, MARK, PAGE, STATE, STYLE_CHAIN, Fault, Pages, chain, is_open, number
 from store_file import tables_of as tables_in
 
 
@@ -66,6 +66,8 @@ def not_empty(call):
         return [f"{name(store)} is there already and is no store{what}; give a name that is free: nothing is written over it"]
     if root[2] == 0:
         return [f"{name(store)} is an empty store already; go on with: yilgartzu import {quoted(store)} STYLE INPUT"]
+    if root[2] == FOLLOWING:
+        return [f"{name(store)} is a store already, which follows another one; a new store needs another name"]
     return [f"{name(store)} is a store that holds a map already; changes go in by yilgartzu append, and a new store needs another name"]
 
 
@@ -85,6 +87,9 @@ def not_formatted(call):
 
 def not_imported(call):
     store = call.store()
+    if store and call.command == "follow":
+        return [f"{name(store)} has no tables yet, and a difference is told: the first block has to be one of all tables",
+            f"yilgartzu feed full=yes SOURCE BOUNDS | yilgartzu follow {quoted(store)} /dev/stdin"]
     return [f"{name(store)} holds no map yet; first: yilgartzu import {quoted(store)} STYLE INPUT"] if store else []
 
 
@@ -92,6 +97,8 @@ def already_imported(call):
     store = call.store()
     if store is None:
         return []
+    if call.command == "follow":
+        return [f"{name(store)} holds a map of its own, and follows no other store; one that follows is made by: yilgartzu init NEW_STORE"]
     root = root_of(store)
     changes = f" and {root[3]} changes of it" if root and root[3] else ""
     word = quoted(store)
@@ -102,6 +109,22 @@ def already_imported(call):
 def old_format(call):
     store = call.store()
     return [f"{name(store)} was made by an earlier version; first, once: yilgartzu migrate {quoted(store)}"] if store else []
+
+
+def follower(call):
+    store = call.store()
+    if store is None:
+        return []
+    changes = "; changes go into the store that it follows" if call.command in ("append", "feed", "import", "serve") else ""
+    return [f"{name(store)} follows another store, whose tables alone it has: follow and export take it, and no other command{changes}"]
+
+
+def gap(call, file, have, got):
+    path, store = call.path(int(file)), call.store()
+    if path is None or store is None:
+        return []
+    return [f"{name(path)} tells change {got} of a store, and {name(store)} has the tables of {have}: those between are lacking; follow their files first",
+        f"or take all tables: yilgartzu feed full=yes SOURCE BOUNDS | yilgartzu follow {quoted(store)} /dev/stdin"]
 
 
 def bad_store(call, page):
@@ -178,7 +201,7 @@ def write_fault(call):
         # To run it again would make one more version.
         kept = "; the last step may be in the store without its block: tools/load_postgis --if-behind brings tables up that follow it"
         return [f"standard output took no more: what read it has ended (it may say why), or its disk is full{kept}"]
-    elif call.command in ("import", "append", "serve", "replay", "demo", "migrate", "init"):
+    elif call.command in ("import", "append", "follow", "serve", "replay", "demo", "migrate", "init"):
         kept = "; the last step may be in the store without its line"
     else:
         kept = ""
@@ -252,7 +275,7 @@ def folder_fault(call, path):
     if call.command not in ("init", "replay", "demo"):
         made = f"this makes it a store: yilgartzu init {quoted(path)}"
         other = "a new store is made by yilgartzu init, and filled by yilgartzu import"
-        return f"{name(path)}: no such file{away(path)}; {order_hint(call) or (made if call.command == 'import' else other)}"
+        return f"{name(path)}: no such file{away(path)}; {order_hint(call) or (made if call.command in ('import', 'follow') else other)}"
     if os.statvfs(folder).f_flag & os.ST_RDONLY:
         return f"{name(path)}: its file system is read-only"
     if not may(folder, os.W_OK | os.X_OK):

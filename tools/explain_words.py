@@ -14,6 +14,7 @@ FORMS = {
     "import": "[workers=N] [buckets=N] STORE STYLE INPUT",
     "append": "[ahead=N] [workers=N] STORE BOUNDS CHANGE..",
     "feed": "[workers=N] [full=yes] STORE BOUNDS [CHANGE..]",
+    "follow": "STORE FEED..",
     "export": "STORE TABLE",
     "tiles": "[clear=yes] STORE MINZOOM",
     "query": "STORE QUERIES",
@@ -79,13 +80,15 @@ FITS = {
     "STYLE": ("style",),
     "BOUNDS": ("rows",),
     "QUERIES": ("queries",),
+    "FEED": ("feed", "empty"),
     "INPUT": ("opl", "bom", "empty", *MAP_DATA),
     "CHANGE": ("opl", "bom", "empty", *MAP_DATA),
 }
-IS = {"STORE": "a store", "STYLE": "a style", "BOUNDS": "a boundary table", "QUERIES": "a file of queries"}
+IS = {"STORE": "a store", "STYLE": "a style", "BOUNDS": "a boundary table", "QUERIES": "a file of queries", "FEED": "a feed"}
 MADE_BY = {
     "STYLE": "docs/STYLES.md says how it is written",
     "BOUNDS": "tools/tile_rows 14 > rows makes it for zoom 14",
+    "FEED": "yilgartzu feed writes it, of the store that is followed",
 }
 
 

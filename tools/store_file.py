@@ -25,6 +25,8 @@ JOURNAL, MOVED, NUMBERS = 8, 16, PAGE // 8
 # Where numbers stand in the root page.
 HOME, FORMAT, STATE, CHANGES, BUCKETS, CHAINS = 0, 8, 16, 24, 32, 48
 EMPTY_FORMAT, IMPORTED_FORMAT = 1, 2
+# The state of a store that follows another one.
+FOLLOWING = 2
 STYLE_CHAIN = 1
 # A page of a chain has the next page, how many bytes it holds and the chain's number, and then these bytes.
 CHAIN_HEAD, MOST = 16, PAGE - 16
@@ -44,7 +46,7 @@ class Store:
     """What a store said of itself at one moment."""
 
     def __init__(self, root, style, file):
-        self.format, self.changes = number(root, FORMAT), number(root, CHANGES)
+        self.format, self.changes, self.follows = number(root, FORMAT), number(root, CHANGES), number(root, STATE) == FOLLOWING
         self.buckets, self.pages, self.size = number(root, BUCKETS), number(root, HOME), file.st_size
         # The bytes of the style as the store keeps them, and the tables that they define.
         self.style, self.tables = style, tables_of(style)
@@ -113,7 +115,7 @@ def tables_of(style):
 
 
 def imported(file, head, root):
-    """The store, where the pages are those of an imported one in the format of today."""
+    """The store, where the pages are those of an imported one in the format of today, or of one that follows another."""
     if len(root) < PAGE or not head.startswith(MARK):
         raise Fault("not formatted: this file is no store")
     kind = number(root, STATE), number(root, FORMAT)
@@ -121,7 +123,7 @@ def imported(file, head, root):
         raise Fault("not imported: the store is empty; import an extract into it first")
     if kind == (1, EMPTY_FORMAT):
         raise Fault("old format: run `yilgartzu migrate` on it first")
-    if kind != (1, IMPORTED_FORMAT):
+    if kind not in ((1, IMPORTED_FORMAT), (FOLLOWING, IMPORTED_FORMAT)):
         raise Fault("bad store page 1: its format and state are those of no store; take the backup")
     return Store(root, chain(functools.partial(page_of, file), root, STYLE_CHAIN), os.fstat(file))
 
