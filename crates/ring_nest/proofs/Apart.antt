@@ -14,7 +14,8 @@ use Rattle.lanes_geo.specs.Crossing.{Segment, segments_from, crosses, odd}
 use Rattle.lanes_geo.specs.Grid.{IsPlace, apart, east_of, north_of}
 use Rattle.lanes_geo.proofs.Crossed.{EndsOnEarth, differ, crosses_is}
 use Rattle.lanes_geo.proofs.Level.{IsOnSide, none_crossed}
-use Rattle.ring_nest.specs.Nesting.{is_between, lies_within, lies_on, holds}
+use Rattle.ring_nest.specs.Around.{at_place, start}
+use Rattle.ring_nest.specs.Nesting.{first_off, holds, is_between, is_inside, lies_on, lies_within}
 use Rattle.ring_nest.proofs.Closed.{last_from, comes_back}
 
 -- why a place is outside a box
@@ -216,12 +217,26 @@ outside asked box place true true true false e f g h w none =
     North (let l = below asked.south box.north (sym h) in let m = w.south in omega (arith, ints))
 outside asked box place true true true true e f g h w none = absurd (cc)
 
--- a ring holds none whose box does not meet its box
-pub holds_none : (ring other : List PlaceOf) (box asked : GeoBox) → is_closed ring ≡ true → AllByRecursion IsPlace ring
-    → AllByRecursion IsPlace other
-    → AllByRecursion (IsWithin box) ring → AllByRecursion (IsWithin asked) other → meets asked box ≡ false → holds ring other ≡ false
-holds_none ring [] box asked closed on other_on f g none = refl
-holds_none ring (p ∷ ps) box asked closed on other_on f g none =
-    let out = outside asked box p _ _ _ _ refl refl refl refl g.0 none in
+own_place : (place : PlaceOf) → IsWithin (at_place place) place
+own_place place = record { west = omega (arith, ints); south = omega (arith, ints); east = omega (arith, ints); north = omega (arith, ints) }
+
+pub place_out : (box : GeoBox) (place : PlaceOf) → meets (at_place place) box ≡ false → Outside box place
+place_out box place none = outside (at_place place) box place _ _ _ _ refl refl refl refl (own_place place) none
+
+-- a ring holds none that begins outside its box
+pub holds_none : (ring other : List PlaceOf) (box : GeoBox) → is_closed ring ≡ true → AllByRecursion IsPlace ring
+    → AllByRecursion IsPlace other → AllByRecursion (IsWithin box) ring → meets (start other) box ≡ false → holds ring other ≡ false
+holds_none ring [] box closed on other_on f none = refl
+holds_none ring (p ∷ ps) box closed on other_on f none =
+    let out = place_out box p none in
     let first = off box p ring out f in
     rw first (not_odd box p ring other_on.0 on f closed out)
+
+-- nor does one of whose places the first that does not lie on it is outside its box
+pub out_of_it : (ring rest : List PlaceOf) (place : PlaceOf) (box : GeoBox) → is_closed ring ≡ true → AllByRecursion IsPlace ring
+    → IsPlace place → AllByRecursion (IsWithin box) ring → meets (at_place place) box ≡ false
+    → is_inside ring (first_off ring (place ∷ rest)) ≡ false
+out_of_it ring rest place box closed on here f none =
+    let out = place_out box place none in
+    let first = off box place ring out f in
+    rw first (not_odd box place ring here on f closed out)

@@ -1,12 +1,15 @@
 -- Inner rings that are added to polygons one after the other.
 use Rattle.std.proofs.Common.{◌≡◌, ◌≢◌, ℕ, ◌+◌, ◌<◌, ◌≤◌, ◌-◌, ◌%◌, ◌==◌, suc, zero, refl, ap, ◌∙◌, arith, List, [], ◌∷◌, ◌++◌, length, map}
-use Rattle.std.proofs.Common.{take, get_or, set, Bool, true, false, not, cond, ◌&&◌, if◌then◌else◌, Some, add-zero, zero-add}
+use Rattle.std.proofs.Common.{take, get_or, set, Bool, true, false, not, cond, ◌&&◌, if◌then◌else◌, Option, Some, add-zero, sym, zero-add}
 use Rattle.std.specs.List.{filter, list_all}
 use Rattle.std.proofs.lemmas.Bool.Decides.{nat_tests}
-use Rattle.std.proofs.lemmas.List.{append-nil, length-map}
-use Rattle.ring_nest.specs.Nesting.{Ring, depth, holds, is_outer, owns, owner, belongs}
+use Rattle.std.proofs.lemmas.Grind.{get_or_default_zero}
+use Rattle.std.proofs.lemmas.List.{append-nil, get_or_default, length-map}
+use Rattle.ring_nest.specs.declared.tree.Tree.{Tree}
+use Rattle.ring_nest.specs.Holders.{HoldsAll, IsLeast, holders_in, inner_owner, is_above}
+use Rattle.ring_nest.specs.Nesting.{Ring, depth, holds, is_outer, owns, owner, belongs, ring_at}
 use Rattle.ring_nest.specs.Polygons.{polygons_from, slots_from}
-use Rattle.ring_nest.proofs.Owned.{owner_from}
+use Rattle.ring_nest.proofs.Owned.{owner_from, owner_is}
 use Rattle.ring_nest.proofs.Held.{next_of}
 
 -- what a function gives for a member
@@ -231,3 +234,18 @@ pub inner_is : (rings : List Ring) (depths : List ℕ) (at : ℕ) (ring : Ring) 
 inner_is rings depths at ring e h g odd_one =
     let deep = mapped_at (depth rings) rings depths at ring 0 e h g in
     is_zero (depth rings ring % 2) (rw deep at odd_one)
+
+-- the ring that an inner ring belongs to
+pub inner_owner_is : (rings : List Ring) (tree : Tree) (depths : List ℕ) (at deep : ℕ) (r : Option ℕ) → HoldsAll rings tree
+    → depths ≡ map (depth rings) rings → at < length rings → deep ≡ get_or depths at deep → deep % 2 ≢ 0
+    → IsLeast (is_above depths deep) (holders_in rings tree (ring_at rings at)) r → r ≡ inner_owner rings (ring_at rings at)
+inner_owner_is rings tree depths at deep r h e low is odd_one least =
+    let long : at < length depths = rw (e, length-map rings (depth rings)) low in
+    let same = is ∙ get_or_default_zero depths at deep long in
+    let inner = inner_is rings depths at (ring_at rings at) e low (get_or_default rings at [] (ring_at rings at) low) (rw same at odd_one) in
+    rw inner (sym (owner_is rings tree depths at r h e low (rw same at least)))
+
+pub owner_of_inner : (rings : List Ring) (owners : List (Option ℕ)) (at : ℕ) (ring : Ring) (r d : Option ℕ)
+    → owners ≡ map (inner_owner rings) rings → at < length rings → ring ≡ get_or rings at ring → is_outer rings ring ≡ false
+    → get_or owners at d ≡ r → owner rings ring ≡ r
+owner_of_inner rings owners at ring r d e low f inner g = rw inner at (sym (mapped_at (inner_owner rings) rings owners at ring d e low f) ∙ g)

@@ -6,7 +6,7 @@ use Rattle.std.proofs.lemmas.Int.{ints}
 use Rattle.std.proofs.lemmas.List.{take_more}
 use Rattle.osm_base.specs.declared.values.place.GeoBox.{GeoBox}
 use Rattle.lanes_geo.specs.Box.{meets}
-use Rattle.ring_nest.specs.Around.{Covers, IsBoxed, around}
+use Rattle.ring_nest.specs.Around.{Covers, IsBoxed, around, start}
 use Rattle.ring_nest.specs.Nesting.{Ring, holds}
 use Rattle.ring_nest.proofs.Apart.{holds_none}
 
@@ -37,8 +37,8 @@ not_met asked block box c none =
     (lower_end block.west box.west asked.east c.west) (higher_end block.east box.east asked.west c.east)
     (lower_end block.south box.south asked.north c.south) (higher_end block.north box.north asked.south c.north) none
 
-pub not_held : (ring other : Ring) → IsBoxed other → IsBoxed ring → meets (around ring) (around other) ≡ false → holds other ring ≡ false
-not_held ring other b a none = holds_none other ring (around other) (around ring) b.closed b.on_earth a.on_earth b.within a.within none
+pub not_held : (ring other : Ring) → IsBoxed other → IsBoxed ring → meets (start ring) (around other) ≡ false → holds other ring ≡ false
+not_held ring other b a none = holds_none other ring (around other) b.closed b.on_earth a.on_earth b.within none
 
 pub all_at : {A : Type 0} (P : A → Type 0) (xs : List A) (at : ℕ) (x : A) → AllByRecursion P xs → at < length xs → x ≡ get_or xs at x → P x
 all_at P [] at x all h e = absurd (omega arith)

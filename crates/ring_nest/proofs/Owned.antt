@@ -1,6 +1,6 @@
 -- Depths and owners, by the numbers of the rings that hold each ring.
 use Rattle.std.proofs.Common.{length-append, ◌≡◌, ◌≢◌, ℕ, ◌+◌, ◌-◌, ◌<◌, ◌≤◌, ◌==◌, suc, zero, refl, sym, ap, ◌∙◌, arith, List, [], ◌∷◌}
-use Rattle.std.proofs.Common.{◌++◌, length, map, take, get_or, Bool, true, false, cond, not, ◌&&◌, ◌||◌, if◌then◌else◌, nat_lt, Option}
+use Rattle.std.proofs.Common.{◌++◌, length, map, take, get_or, Bool, true, false, cond, not, ◌&&◌, ◌||◌, if◌then◌else◌, nat_le, nat_lt, Option}
 use Rattle.std.proofs.Common.{Some, None, zero-add, add-zero, count_by}
 use Rattle.std.specs.List.{AllByRecursion, filter, list_any, position_from, range_with_len}
 use Rattle.std.specs.List.Sorted.{IsPermutation}
@@ -11,10 +11,10 @@ use Rattle.std.proofs.lemmas.List.Sorted.{IsPermutation-append, IsPermutation-tr
 use Rattle.std.proofs.lemmas.List.Sorted.{sum_by-IsPermutation}
 use Rattle.std.proofs.lemmas.List.Folds.{list_any-append}
 use Rattle.std.proofs.lemmas.List.Sums.{length-filter, sum_by-cons}
-use Rattle.ring_nest.specs.Holders.{AreHolders, IsLeast, is_above, is_holder, lesser_of}
+use Rattle.ring_nest.specs.declared.tree.Tree.{Tree}
+use Rattle.ring_nest.specs.Holders.{HoldsAll, IsLeast, few_of, holders_in, is_above, is_holder, lesser_of, numbers_of}
 use Rattle.ring_nest.specs.Nesting.{Ring, depth, holds, owner, owns, ring_at}
 use Rattle.ring_nest.proofs.Held.{next_of}
-use Rattle.ring_nest.proofs.Walked.{ring_is}
 
 -- one number more
 pub range_more : (from some : ℕ) → range_with_len from (suc some) ≡ range_with_len from some ++ (from + some) ∷ []
@@ -47,12 +47,13 @@ depth_is rings order ring permutation =
     ∙ count_map (ring_at rings) (λ other. holds other ring) (range_with_len 0 (length rings)) ∙ ap (λ all. depth all ring) (rings_are rings)
 
 depths_from : (rings some : List Ring) (order : List ℕ) → IsPermutation (range_with_len 0 (length rings)) order
-    → map length (map (λ ring. filter (is_holder rings ring) order) some) ≡ map (depth rings) some
+    → map (λ ring. length (filter (is_holder rings ring) order)) some ≡ map (depth rings) some
 depths_from rings [] order permutation = refl
 depths_from rings (ring ∷ some) order permutation = rw (depth_is rings order ring permutation, depths_from rings some order permutation)
 
-pub depths_are : (rings : List Ring) (holders : List (List ℕ)) → AreHolders rings holders → map length holders ≡ map (depth rings) rings
-depths_are rings holders h = rw h.are (depths_from rings rings h.order h.permutation)
+pub depths_are : (rings : List Ring) (tree : Tree) → HoldsAll rings tree
+    → map (λ ring. length (holders_in rings tree ring)) rings ≡ map (depth rings) rings
+depths_are rings tree h = depths_from rings rings (numbers_of tree) h.all
 
 always : (b : Bool) → (b || true) ≡ false → ⊥
 always true e = cc
@@ -198,24 +199,28 @@ owner_least rings depths order ring e permutation (Some found) least =
     ∙ ap (λ b. b && nat_lt number found) (owns_is rings depths ring number e (omega arith))) in
     owner_some rings ring found 0 (length rings) owned (omega arith) high (sym same ∙ none)
 
--- the numbers that hold a ring
-pub holders_at : (rings : List Ring) (holders : List (List ℕ)) (at : ℕ) (ring : Ring) (own : List ℕ) → (h : AreHolders rings holders)
-    → at < length rings
-    → ring ≡ get_or rings at ring → own ≡ get_or holders at own → own ≡ filter (is_holder rings ring) h.order
-holders_at rings holders at ring own h low e f =
-    let one = get_or-map (λ some. filter (is_holder rings some) h.order) rings at [] own low in
-    f ∙ ap (λ all. get_or all at own) h.are ∙ one ∙ ap (λ some. filter (is_holder rings some) h.order) (ring_is rings at ring low e)
+few_next : (b : Bool) (holders few : List ℕ) → (if b then Some holders else None) ≡ Some few → few ≡ holders
+few_next true holders few e = cc
+few_next false holders few e = absurd (cc)
+
+-- the holders of a ring, where they were kept
+pub kept_is : (rings : List Ring) (tree : Tree) (kept : List (Option (List ℕ))) (at : ℕ) (own : Option (List ℕ)) (few : List ℕ)
+    → kept ≡ map (λ ring. few_of (holders_in rings tree ring)) rings → at < length rings → own ≡ get_or kept at own → own ≡ Some few
+    → few ≡ holders_in rings tree (ring_at rings at)
+kept_is rings tree kept at own few e low f g =
+    let one = get_or-map (λ ring. few_of (holders_in rings tree ring)) rings at [] own low in
+    let here = holders_in rings tree (ring_at rings at) in
+    few_next (nat_le (length here) 8) here few (sym one ∙ ap (λ all. get_or all at own) (sym e) ∙ sym f ∙ g)
 
 -- the owner of a ring is the least of its holders that are one less deep
-pub owner_is : (rings : List Ring) (holders : List (List ℕ)) (depths : List ℕ) (at : ℕ) (ring : Ring) (own : List ℕ) (r : Option ℕ)
-    → AreHolders rings holders
-    → depths ≡ map (depth rings) rings → at < length rings → ring ≡ get_or rings at ring → own ≡ get_or holders at own
-    → IsLeast (is_above depths (get_or depths at 0)) own r → owner rings ring ≡ r
-owner_is rings holders depths at ring own r h e low f g least =
-    let deep : get_or depths at 0 ≡ depth rings ring =
-    rw e (get_or-map (depth rings) rings at [] 0 low ∙ ap (depth rings) (ring_is rings at ring low f)) in
-    let here = rw (deep, holders_at rings holders at ring own h low f g) at least in
-    ap (λ all. owner_from rings 0 all ring) (sym (rings_are rings)) ∙ owner_least rings depths h.order ring e h.permutation r here
+pub owner_is : (rings : List Ring) (tree : Tree) (depths : List ℕ) (at : ℕ) (r : Option ℕ) → HoldsAll rings tree
+    → depths ≡ map (depth rings) rings → at < length rings
+    → IsLeast (is_above depths (get_or depths at 0)) (holders_in rings tree (ring_at rings at)) r → owner rings (ring_at rings at) ≡ r
+owner_is rings tree depths at r h e low least =
+    let ring = ring_at rings at in
+    let deep : get_or depths at 0 ≡ depth rings ring = rw e (get_or-map (depth rings) rings at [] 0 low) in
+    let here = rw deep at least in
+    ap (λ all. owner_from rings 0 all ring) (sym (rings_are rings)) ∙ owner_least rings depths (numbers_of tree) ring e h.all r here
 
 all_below_next : (number count : ℕ) (any : Bool) → (not (nat_lt number count) || any) ≡ false → (number < count) × (any ≡ false)
 all_below_next number count true e = absurd (always (not (nat_lt number count)) e)
@@ -278,14 +283,12 @@ all_filter P p [] all = tt
 all_filter P p (x ∷ xs) all = all_filter_next P (p x) x (filter p xs) all.0 (all_filter P p xs all.1)
 
 -- the numbers that hold a ring are numbers of rings
-pub holders_below : (rings : List Ring) (holders : List (List ℕ)) (at : ℕ) (ring : Ring) (own : List ℕ) → AreHolders rings holders
-    → at < length rings
-    → ring ≡ get_or rings at ring → own ≡ get_or holders at own → AllByRecursion (λ number. number < length rings) own
-holders_below rings holders at ring own h low e f =
-    rw (holders_at rings holders at ring own h low e f)
-    (all_filter (λ number. number < length rings) (is_holder rings ring) h.order
-    (order_below (length rings) (range_with_len 0 (length rings)) h.order h.permutation
-    (range_below 0 (length rings) (length rings) (omega arith))))
+pub holders_below : (rings : List Ring) (tree : Tree) (ring : Ring) → HoldsAll rings tree
+    → AllByRecursion (λ number. number < length rings) (holders_in rings tree ring)
+holders_below rings tree ring h =
+    all_filter (λ number. number < length rings) (is_holder rings ring) (numbers_of tree)
+    (order_below (length rings) (range_with_len 0 (length rings)) (numbers_of tree) h.all
+    (range_below 0 (length rings) (length rings) (omega arith)))
 
 least_next : (p : ℕ → Bool) (numbers : List ℕ) (number : ℕ) (r : Option ℕ) → p number ≡ false → IsLeast p numbers r
     → IsLeast p (numbers ++ number ∷ []) r

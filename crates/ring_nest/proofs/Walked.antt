@@ -8,7 +8,7 @@ use Rattle.osm_base.specs.declared.values.place.GeoBox.{GeoBox}
 use Rattle.lanes_geo.specs.Box.{meets}
 use Rattle.ring_nest.specs.declared.tree.Tree.{Tree}
 use Rattle.ring_nest.specs.declared.tree.Tree.TheVariants.{Few, Halves'}
-use Rattle.ring_nest.specs.Around.{Covers, IsBoxed, around, some_box}
+use Rattle.ring_nest.specs.Around.{Covers, IsBoxed, around, some_box, start}
 use Rattle.ring_nest.specs.Holders.{IsCovered, IsTree, box_at, box_of_tree, is_holder, numbers_of}
 use Rattle.ring_nest.specs.Nesting.{Ring, ring_at}
 use Rattle.ring_nest.proofs.Held.{all_at, covers_more, next_of, not_held, not_met}
@@ -27,16 +27,16 @@ box_is rings number h = get_or-map around rings number [] (some_box None) h
 
 not_in : (rings : List Ring) (box : GeoBox) (ring : Ring) (number : ℕ) → AllByRecursion IsBoxed rings → IsBoxed ring
     → IsCovered (map around rings) box number
-    → meets (around ring) box ≡ false → is_holder rings ring number ≡ false
+    → meets (start ring) box ≡ false → is_holder rings ring number ≡ false
 not_in rings box ring number all boxed c none =
     let w = c.within in
     let h : number < length rings = omega (arith, w, length-map rings around) in
     let covered = rw (box_is rings number h) at c.covered in
     not_held ring (ring_at rings number) (boxed_at rings number all h) boxed
-    (not_met (around ring) box (around (ring_at rings number)) covered none)
+    (not_met (start ring) box (around (ring_at rings number)) covered none)
 
 pub none_in : (rings : List Ring) (box : GeoBox) (ring : Ring) (numbers : List ℕ) → AllByRecursion IsBoxed rings → IsBoxed ring
-    → AllByRecursion (IsCovered (map around rings) box) numbers → meets (around ring) box ≡ false
+    → AllByRecursion (IsCovered (map around rings) box) numbers → meets (start ring) box ≡ false
     → filter (is_holder rings ring) numbers ≡ []
 none_in rings box ring [] all boxed c none = refl
 none_in rings box ring (number ∷ numbers) all boxed c none =
@@ -88,6 +88,18 @@ mark_is asked rings (number ∷ numbers) own marks zero box e f c h =
 mark_is asked rings (number ∷ numbers) own marks (suc at) box e f c h =
     rw (e, f) (mark_is asked rings numbers (map (box_at (map around rings)) numbers)
     (map (meets asked) (map (box_at (map around rings)) numbers)) at box refl refl c.1 (omega arith))
+
+-- the box of a number of a leaf
+pub own_is : (rings : List Ring) (numbers : List ℕ) (own : List GeoBox) (at : ℕ) (box : GeoBox)
+    → own ≡ map (box_at (map around rings)) numbers → AllByRecursion (IsCovered (map around rings) box) numbers → at < length numbers
+    → get_or own at (some_box None) ≡ around (ring_at rings (get_or numbers at 0))
+own_is rings [] own at box f c h = absurd (omega arith)
+own_is rings (number ∷ numbers) own zero box f c h =
+    let w = c.0.within in
+    let k : number < length rings = omega (arith, w, length-map rings around) in
+    rw (f, box_is rings number k)
+own_is rings (number ∷ numbers) own (suc at) box f c h =
+    rw f (own_is rings numbers (map (box_at (map around rings)) numbers) at box refl c.1 (omega arith))
 
 pub covered_at : (boxes : List GeoBox) (box : GeoBox) (numbers : List ℕ) (at : ℕ) → AllByRecursion (IsCovered boxes box) numbers
     → at < length numbers

@@ -1,7 +1,8 @@
 -- The boxes of rings, by which pairs are passed over.
-use Rattle.std.specs.Prelude.{◌≡◌, ◌≤ℤ◌, true, pos, Option, Some, None}
+use Rattle.std.specs.Prelude.{◌≡◌, ◌≤ℤ◌, true, pos, List, [], ◌∷◌, Option, Some, None}
 use Rattle.std.specs.List.{AllByRecursion}
 use Rattle.osm_base.specs.values.Line.{is_closed}
+use Rattle.osm_base.specs.values.Place.{PlaceOf}
 use Rattle.osm_base.specs.declared.values.place.GeoBox.{GeoBox}
 use Rattle.lanes_geo.specs.Box.{IsWithin, box_of}
 use Rattle.lanes_geo.specs.Grid.{IsPlace}
@@ -15,6 +16,15 @@ some_box (Some box) = box
 -- the box of a ring, which has at least one place
 abbrev pub around : Ring → GeoBox
 around ring = some_box (box_of ring)
+
+-- the box of one place
+abbrev pub at_place : PlaceOf → GeoBox
+at_place place = record { west = place.lon; south = place.lat; east = place.lon; north = place.lat }
+
+-- the box of a ring's first place
+abbrev pub start : Ring → GeoBox
+start [] = some_box None
+start (place ∷ places) = at_place place
 
 -- a closed ring with all places of the world and within its box
 pub record IsBoxed (ring : Ring) : Type 0 where

@@ -1,5 +1,5 @@
 -- Rings by their numbers: a tree of boxes, the rings that hold a ring, and the one that it belongs to.
-use Rattle.std.specs.Prelude.{◌≡◌, ◌<◌, ◌≤◌, ◌++◌, ◌==◌, ◌&&◌, ◌+◌, ℕ, Bool, true, false, List, length, map, Option, Some, None, nat_lt}
+use Rattle.std.specs.Prelude.{◌≡◌, ◌<◌, ◌≤◌, ◌++◌, ◌==◌, ◌&&◌, ◌+◌, ℕ, Bool, true, false, List, length, map, Option, Some, None, nat_le, nat_lt}
 use Rattle.std.specs.Prelude.{if◌then◌else◌, slice_index_or}
 use Rattle.std.specs.List.{AllByRecursion, filter, list_any, range_with_len}
 use Rattle.std.specs.List.Sorted.{IsPermutation}
@@ -8,18 +8,20 @@ use Rattle.ring_nest.specs.declared.tree.Leaf.{Leaf}
 use Rattle.ring_nest.specs.declared.tree.Tree.{Tree}
 use Rattle.ring_nest.specs.declared.tree.Tree.TheVariants.{Few, Halves'}
 use Rattle.ring_nest.specs.declared.tree.TheConstants.{LEAF}
-use Rattle.ring_nest.specs.Around.{Covers, IsBoxed, around, some_box}
-use Rattle.ring_nest.specs.Nesting.{Ring, holds, ring_at}
+use Rattle.ring_nest.specs.declared.holders.Holders.{Holders}
+use Rattle.ring_nest.specs.declared.holders.TheConstants.{FEW}
+use Rattle.ring_nest.specs.Around.{Covers, IsBoxed, around, some_box, start}
+use Rattle.ring_nest.specs.Nesting.{Ring, depth, holds, is_outer, owner, ring_at}
 
 -- whether the ring with a number holds a ring
 abbrev pub is_holder : List Ring → Ring → ℕ → Bool
 is_holder rings ring number = holds (ring_at rings number) ring
 
--- a ring that is asked for, with its box
+-- a ring that is asked for, with the box of its first place
 pub record IsAsked (rings : List Ring) (number : ℕ) (asked : GeoBox) : Type 0 where
   pub boxed : AllByRecursion IsBoxed rings
   pub within : number < length rings
-  pub around_it : asked ≡ around (ring_at rings number)
+  pub at_start : asked ≡ start (ring_at rings number)
 
 -- the box with a number
 abbrev pub box_at : List GeoBox → ℕ → GeoBox
@@ -52,11 +54,28 @@ IsTree boxes (Few leaf) = IsLeaf boxes leaf
 IsTree boxes (Halves' box p left q right) =
     IsTree boxes left × IsTree boxes right × AllByRecursion (IsCovered boxes box) (numbers_of left ++ numbers_of right)
 
--- the numbers of the rings that hold each ring, in some order that is the same for all
-pub record AreHolders (rings : List Ring) (holders : List (List ℕ)) : Type 0 where
-  pub order : List ℕ
-  pub permutation : IsPermutation (range_with_len 0 (length rings)) order
-  pub are : holders ≡ map (λ ring. filter (is_holder rings ring) order) rings
+-- the numbers of the rings of a tree that hold a ring
+abbrev pub holders_in : List Ring → Tree → Ring → List ℕ
+holders_in rings tree ring = filter (is_holder rings ring) (numbers_of tree)
+
+-- holders where they are few enough to be kept
+abbrev pub few_of : List ℕ → Option (List ℕ)
+few_of holders = if nat_le (length holders) FEW then Some holders else None
+
+-- the ring that a ring belongs to, where it is an inner one
+abbrev pub inner_owner : List Ring → Ring → Option ℕ
+inner_owner rings ring = if is_outer rings ring then None else owner rings ring
+
+-- a tree of all rings
+pub record HoldsAll (rings : List Ring) (tree : Tree) : Type 0 where
+  pub boxed : AllByRecursion IsBoxed rings
+  pub is_tree : IsTree (map around rings) tree
+  pub all : IsPermutation (range_with_len 0 (length rings)) (numbers_of tree)
+
+-- what is kept of the holders of each ring
+pub record KeepsHolders (rings : List Ring) (tree : Tree) (holders : Holders) : Type 0 where
+  pub depths : holders.depths.items ≡ map (depth rings) rings
+  pub few : holders.few.items ≡ map (λ ring. few_of (holders_in rings tree ring)) rings
 
 -- whether the ring with a number has a depth one less than another one
 abbrev pub is_above : List ℕ → ℕ → ℕ → Bool

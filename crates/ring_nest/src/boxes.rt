@@ -2,11 +2,19 @@
 ghost use Rattle.std.specs.Prelude.{◌≡◌, ◌≤ℤ◌, true, map, IfOk, All};
 ghost use Rattle.std.specs.List.{AllByRecursion};
 ghost use Rattle.osm_base.specs.values.Line.{is_closed, IsRing};
-ghost use Rattle.ring_nest.specs.Around.{Covers, IsBoxed, around};
+ghost use Rattle.ring_nest.specs.Around.{Covers, IsBoxed, around, at_place, start};
 
 use lanes_geo::box_of;
 use osm_base::{GeoBox, OutOfMemory, Place, Places};
 use std::alloc::Global;
+
+/// The box that no place is said to have.
+const NO_BOX: GeoBox = GeoBox {
+    west: 0,
+    south: 0,
+    east: 0,
+    north: 0,
+};
 
 /// The box of a ring.
 fn box_around(ring: &[Place]) -> GeoBox
@@ -14,12 +22,29 @@ fn box_around(ring: &[Place]) -> GeoBox
     ensures around { result ≡ around ring.now }
     ensures boxed { IsBoxed ring.now }
 {
-    box_of(ring).unwrap_or(GeoBox {
-        west: 0,
-        south: 0,
-        east: 0,
-        north: 0,
-    })
+    box_of(ring).unwrap_or(NO_BOX)
+}
+
+/// The box of one place.
+pub(crate) fn box_of_place(place: Place) -> GeoBox
+    ensures { result ≡ at_place place }
+{
+    GeoBox {
+        west: place.lon,
+        south: place.lat,
+        east: place.lon,
+        north: place.lat,
+    }
+}
+
+/// The box of a ring's first place. No ring whose box does not meet it holds the ring.
+pub(crate) fn start_of(ring: &[Place]) -> GeoBox
+    ensures { result ≡ start ring.now }
+{
+    match ring.first() {
+        None => NO_BOX,
+        Some(place) => box_of_place(*place),
+    }
 }
 
 /// The lesser of two numbers.

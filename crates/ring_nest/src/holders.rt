@@ -1,53 +1,24 @@
 //! The rings that hold each ring, and what follows from them: its depth, and the ring that it belongs to.
-ghost use Rattle.std.specs.Prelude.{◌≡◌, ◌<◌, length, map, IfOk};
-ghost use Rattle.std.specs.List.{AllByRecursion, filter, range_with_len};
-ghost use Rattle.ring_nest.specs.Nesting.{ring_at};
+ghost use Rattle.std.specs.Prelude.{◌≡◌, ◌≢◌, ◌<◌, ◌≤◌, ◌%◌, length, map, IfOk};
+ghost use Rattle.std.specs.List.{AllByRecursion, range_with_len};
+ghost use Rattle.ring_nest.specs.Nesting.{depth as depth_of_ring, ring_at};
 ghost use Rattle.ring_nest.specs.Around.{IsBoxed, around};
-ghost use Rattle.ring_nest.specs.Holders.{AreHolders, IsAsked, IsLeast, IsTree, is_above, is_holder, lesser_of, numbers_of};
+ghost use Rattle.ring_nest.specs.Holders.{HoldsAll, IsLeast, KeepsHolders, few_of as few_of_list, holders_in, inner_owner, is_above, lesser_of};
 
+use crate::boxes::start_of;
 use crate::tree::{LEAF, Tree, add_holders, tree_of};
 use osm_base::{GeoBox, Items, OutOfMemory, Places};
 use std::alloc::Global;
 
-/// The numbers of the rings of a tree that hold a ring.
-fn holders_of(
-    alloc: Global,
-    tree: &Tree,
-    rings: &[Places],
-    number: usize,
-    asked: GeoBox,
-    mask: &mut [bool],
-) -> Result<Items<usize>, OutOfMemory>
-    requires is_tree { IsTree (map around rings.now) tree.now }
-    requires asked { IsAsked rings.now number asked }
-    requires mask { length mask.old ≡ LEAF }
-    ensures { IfOk result (λ holders. holders ≡ filter (is_holder rings.now (ring_at rings.now number)) (numbers_of tree.now)) }
-{
-    let mut found = Vec::new(alloc);
-    add_holders(tree, rings, number, asked, mask, &mut found)?;
-    Ok(Items::from_vec(found))
-}
+/// The holders of a ring are kept where they are no more than these. Those of a deeper ring are looked for again when they are
+/// asked for, so that all that is kept grows with the rings alone, however many hold each other.
+pub(crate) const FEW: usize = 8;
 
-/// The numbers of the rings of a tree that hold each ring.
-fn holders_of_each(
-    alloc: Global,
-    tree: &Tree,
-    rings: &[Places],
-    boxes: &[GeoBox],
-) -> Result<Vec<Items<usize>>, OutOfMemory>
-    requires is_tree { IsTree (map around rings.now) tree.now }
-    requires boxes { boxes.now ≡ map around rings.now }
-    requires boxed { AllByRecursion IsBoxed rings.now }
-    ensures { IfOk result (λ holders. holders.items ≡ map (λ ring. filter (is_holder rings.now ring) (numbers_of tree.now)) rings.now) }
-{
-    let mut mask = [false; LEAF];
-    let mut holders = Vec::with_capacity(alloc, rings.len())?;
-    let mut at = 0;
-    while rings.len() - at > 0 {
-        holders.push(holders_of(alloc, tree, rings, at, boxes[at], &mut mask)?)?;
-        at += 1;
-    }
-    Ok(holders)
+/// The rings that hold each ring: how many, and which where they are few.
+#[derive(Drop)]
+pub(crate) struct Holders {
+    depths: Vec<usize>,
+    few: Vec<Option<Items<usize>>>,
 }
 
 /// The numbers below another one, in order.
@@ -61,29 +32,129 @@ fn numbers_below(alloc: Global, count: usize) -> Result<Vec<usize>, OutOfMemory>
     Ok(numbers)
 }
 
-/// The numbers of the rings that hold each ring.
-pub(crate) fn holders_of_all(
+/// The tree of all rings.
+fn tree_of_all(alloc: Global, rings: &[Places], boxes: &[GeoBox]) -> Result<Tree, OutOfMemory>
+    requires boxes { boxes.now ≡ map around rings.now }
+    requires boxed { AllByRecursion IsBoxed rings.now }
+    ensures { IfOk result (HoldsAll rings.now) }
+{
+    let numbers = numbers_below(alloc, rings.len())?;
+    tree_of(alloc, boxes, numbers)
+}
+
+/// The numbers of the rings that hold a ring.
+fn holders_of(
+    alloc: Global,
+    tree: &Tree,
+    rings: &[Places],
+    number: usize,
+    mask: &mut [bool],
+) -> Result<Vec<usize>, OutOfMemory>
+    requires tree { HoldsAll rings.now tree.now }
+    requires within { number < length rings.now }
+    requires mask { length mask.old ≡ LEAF }
+    ensures holders { IfOk result (λ holders. holders.items ≡ holders_in rings.now tree.now (ring_at rings.now number)) }
+    ensures mask { length mask.new ≡ LEAF }
+{
+    let asked = start_of(rings[number].as_slice());
+    let mut found = Vec::new(alloc);
+    add_holders(tree, rings, number, asked, mask, &mut found)?;
+    Ok(found)
+}
+
+/// Holders where they are few enough to be kept.
+fn few_of(holders: Vec<usize>) -> Option<Items<usize>>
+    ensures { result ≡ few_of_list holders.items }
+{
+    if holders.len() <= FEW {
+        Some(Items::from_vec(holders))
+    } else {
+        None
+    }
+}
+
+/// The holders of each ring.
+fn holders_of_each(alloc: Global, tree: &Tree, rings: &[Places]) -> Result<Holders, OutOfMemory>
+    requires tree { HoldsAll rings.now tree.now }
+    ensures { IfOk result (KeepsHolders rings.now tree.now) }
+{
+    let mut mask = [false; LEAF];
+    let mut depths = Vec::with_capacity(alloc, rings.len())?;
+    let mut few = Vec::with_capacity(alloc, rings.len())?;
+    let mut at = 0;
+    while rings.len() - at > 0 {
+        let holders = holders_of(alloc, tree, rings, at, &mut mask)?;
+        depths.push(holders.len())?;
+        few.push(few_of(holders))?;
+        at += 1;
+    }
+    Ok(Holders { depths, few })
+}
+
+/// The ring that a ring belongs to, if it is an inner one and belongs to one.
+fn owner_at(
+    alloc: Global,
+    tree: &Tree,
+    rings: &[Places],
+    holders: &Holders,
+    at: usize,
+    mask: &mut [bool],
+) -> Result<Option<usize>, OutOfMemory>
+    requires tree { HoldsAll rings.now tree.now }
+    requires within { at < length rings.now }
+    requires holders { KeepsHolders rings.now tree.now holders.now }
+    requires mask { length mask.old ≡ LEAF }
+    ensures owner { IfOk result (λ owner. owner ≡ inner_owner rings.now (ring_at rings.now at)) }
+    ensures mask { length mask.new ≡ LEAF }
+{
+    let depth = holders.depths[at];
+    if depth % 2 == 0 {
+        return Ok(None);
+    }
+    if let Some(few) = &holders.few[at] {
+        return Ok(owner_of(few.as_slice(), &holders.depths, depth));
+    }
+    let all = holders_of(alloc, tree, rings, at, mask)?;
+    Ok(owner_of(&all, &holders.depths, depth))
+}
+
+/// The ring that each inner ring belongs to.
+fn owners_of(
+    alloc: Global,
+    tree: &Tree,
+    rings: &[Places],
+    holders: &Holders,
+) -> Result<Vec<Option<usize>>, OutOfMemory>
+    requires tree { HoldsAll rings.now tree.now }
+    requires holders { KeepsHolders rings.now tree.now holders.now }
+    ensures { IfOk result (λ owners. owners.items ≡ map (inner_owner rings.now) rings.now) }
+{
+    let mut mask = [false; LEAF];
+    let mut owners = Vec::with_capacity(alloc, rings.len())?;
+    let mut at = 0;
+    while rings.len() - at > 0 {
+        owners.push(owner_at(alloc, tree, rings, holders, at, &mut mask)?)?;
+        at += 1;
+    }
+    Ok(owners)
+}
+
+/// The depth of each ring, and the ring that each inner one belongs to.
+pub(crate) fn depths_and_owners(
     alloc: Global,
     rings: &[Places],
     boxes: &[GeoBox],
-) -> Result<Vec<Items<usize>>, OutOfMemory>
+) -> Result<(Vec<usize>, Vec<Option<usize>>), OutOfMemory>
     requires boxes { boxes.now ≡ map around rings.now }
     requires boxed { AllByRecursion IsBoxed rings.now }
-    ensures { IfOk result (λ holders. AreHolders rings.now holders.items) }
+    ensures depths { IfOk result (λ (depths, owners). depths.items ≡ map (depth_of_ring rings.now) rings.now) }
+    ensures owners { IfOk result (λ (depths, owners). owners.items ≡ map (inner_owner rings.now) rings.now) }
 {
-    let tree = tree_of(alloc, boxes, numbers_below(alloc, rings.len())?)?;
-    Ok(holders_of_each(alloc, &tree, rings, boxes)?)
-}
-
-/// How many rings hold each ring.
-pub(crate) fn depths_of(alloc: Global, holders: &[Items<usize>]) -> Result<Vec<usize>, OutOfMemory>
-    ensures { IfOk result (λ depths. depths.items ≡ map length holders.now) }
-{
-    let mut depths = Vec::with_capacity(alloc, holders.len())?;
-    for holders_of_one in holders {
-        depths.push(holders_of_one.as_slice().len())?;
-    }
-    Ok(depths)
+    let tree = tree_of_all(alloc, rings, boxes)?;
+    let holders = holders_of_each(alloc, &tree, rings)?;
+    let owners = owners_of(alloc, &tree, rings, &holders)?;
+    let Holders { depths, .. } = holders;
+    Ok((depths, owners))
 }
 
 /// The lesser of a number so far, if there is one, and another one.
@@ -97,7 +168,7 @@ fn lesser(so_far: Option<usize>, number: usize) -> usize
 }
 
 /// The least number of the rings that hold a ring and have a depth one less.
-pub(crate) fn owner_of(holders: &[usize], depths: &[usize], depth: usize) -> Option<usize>
+fn owner_of(holders: &[usize], depths: &[usize], depth: usize) -> Option<usize>
     requires within { AllByRecursion (λ number. number < length depths.now) holders.now }
     requires held { 0 < depth }
     ensures { IsLeast (is_above depths.now depth) holders.now result }

@@ -7,11 +7,12 @@
 //! that an even number of rings hold is an outer one; another one belongs to the lowest ring that holds
 //! it and is held by one less. `nest` gives the outer rings in order, each followed by its inner rings
 //! in order, and None exactly where an inner ring belongs to none. The definition counts over all pairs
-//! of rings; the code asks only pairs whose boxes meet, since a ring holds none whose box does not meet
-//! its own, and asks each such pair once. A tree of boxes over the rings, split at the middle of their
-//! west or south sides down to few rings, leads to these: where few boxes meet, n rings take n log n
-//! steps. `lies_on` and `crosses_odd` are exact in whole numbers of 64 bits. The answer has its own
-//! copy of each ring.
+//! of rings; the code asks only pairs of which the one begins in the box of the other, since a ring holds
+//! none that begins elsewhere. A tree of boxes over the rings, split at the middle of their west or south
+//! sides down to few rings, leads to these: where few boxes lie one over the other, n rings take n log n
+//! steps. What it keeps grows with the rings, however many hold each other: the holders of a ring that has
+//! many are counted, and looked for again where it is an inner one. `lies_on` and `crosses_odd` are exact
+//! in whole numbers of 64 bits. The answer has its own copy of each ring.
 #![tactic(auto)]
 
 mod boxes;

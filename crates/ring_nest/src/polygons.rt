@@ -3,13 +3,13 @@ ghost use Rattle.std.specs.Prelude.{◌≡◌, ◌+◌, ◌<◌, true, take, ◌
 ghost use Rattle.std.specs.Option.{option_map};
 ghost use Rattle.osm_base.specs.values.Line.{IsRing};
 ghost use Rattle.osm_base.specs.values.Place.{PlaceOf};
-ghost use Rattle.ring_nest.specs.Holders.{AreHolders};
+ghost use Rattle.ring_nest.specs.Holders.{inner_owner};
 ghost use Rattle.ring_nest.specs.Nesting.{has_place, depth as depth_of_ring, nested};
 ghost use Rattle.ring_nest.specs.Polygons.{filled, polygons_from, slots_from};
 
 use crate::boxes::boxes_of;
-use crate::holders::{depths_of, holders_of_all, owner_of};
-use osm_base::{Items, LineList, OutOfMemory, Places, Polygons, TryCopy};
+use crate::holders::depths_and_owners;
+use osm_base::{LineList, OutOfMemory, Places, Polygons, TryCopy};
 use std::alloc::Global;
 
 /// The place of each ring's polygon among the polygons.
@@ -100,13 +100,13 @@ fn slot_at(slots: &[usize], number: usize) -> usize
 fn add_ring(
     alloc: Global,
     rings: &[Places],
-    holders: &[Items<usize>],
+    owners: &[Option<usize>],
     depths: &[usize],
     slots: &[usize],
     at: usize,
     polygons: &mut Vec<LineList>,
 ) -> Result<bool, OutOfMemory>
-    requires holders { AreHolders rings.now holders.now }
+    requires owners { owners.now ≡ map (inner_owner rings.now) rings.now }
     requires depths { depths.now ≡ map (depth_of_ring rings.now) rings.now }
     requires slots { slots.now ≡ slots_from 0 depths.now }
     requires at { at < length rings.now }
@@ -119,7 +119,7 @@ fn add_ring(
     if depth % 2 == 0 {
         return Ok(true);
     }
-    match owner_of(holders[at].as_slice(), depths, depth) {
+    match owners[at] {
         None => Ok(false),
         Some(number) => {
             add_inner(polygons, slot_at(slots, number), ring.copy(alloc)?)?;
@@ -132,11 +132,11 @@ fn add_ring(
 fn with_inners(
     alloc: Global,
     rings: &[Places],
-    holders: &[Items<usize>],
+    owners: &[Option<usize>],
     depths: &[usize],
     outers: Vec<LineList>,
 ) -> Result<Option<Vec<LineList>>, OutOfMemory>
-    requires holders { AreHolders rings.now holders.now }
+    requires owners { owners.now ≡ map (inner_owner rings.now) rings.now }
     requires depths { depths.now ≡ map (depth_of_ring rings.now) rings.now }
     requires outers { outers.items ≡ polygons_from rings.now [] 0 rings.now }
     ensures { IfOk result (λ polygons. option_map (λ some. some.items) polygons ≡ filled rings.now) }
@@ -145,7 +145,7 @@ fn with_inners(
     let mut polygons = outers;
     let mut at = 0;
     while rings.len() - at > 0 {
-        if !add_ring(alloc, rings, holders, depths, &slots, at, &mut polygons)? {
+        if !add_ring(alloc, rings, owners, depths, &slots, at, &mut polygons)? {
             return Ok(None);
         }
         at += 1;
@@ -162,10 +162,9 @@ pub fn nest(alloc: Global, rings: &LineList) -> Result<Option<Polygons>, OutOfMe
 {
     let rings = rings.as_slice();
     let boxes = boxes_of(alloc, rings)?;
-    let holders = holders_of_all(alloc, rings, &boxes)?;
-    let depths = depths_of(alloc, &holders)?;
+    let (depths, owners) = depths_and_owners(alloc, rings, &boxes)?;
     let outers = outers_of(alloc, rings, &depths)?;
-    match with_inners(alloc, rings, &holders, &depths, outers)? {
+    match with_inners(alloc, rings, &owners, &depths, outers)? {
         None => Ok(None),
         Some(polygons) => Ok(Some(Polygons::from_vec(polygons))),
     }

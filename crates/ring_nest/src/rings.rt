@@ -1,11 +1,13 @@
 //! One ring and one place, and whether a ring holds another one.
 ghost use Rattle.std.specs.Prelude.{◌≡◌, true};
 ghost use Rattle.lanes_geo.specs.Crossing.{odd};
-ghost use Rattle.ring_nest.specs.Nesting.{first_off as first_off_ring, holds as holds_ring, lies_on as lies_on_ring};
+ghost use Rattle.ring_nest.specs.Around.{IsBoxed, around};
+ghost use Rattle.ring_nest.specs.Nesting.{holds as holds_ring, lies_on as lies_on_ring};
 
+use crate::boxes::box_of_place;
 use crate::segment::lies_within_segment;
-use lanes_geo::odd_crossings;
-use osm_base::Place;
+use lanes_geo::{is_met, odd_crossings};
+use osm_base::{GeoBox, Place};
 
 /// Whether an odd number of a ring's segments cross the latitude of a place strictly east of it.
 /// For callers outside: the program does not use it.
@@ -28,19 +30,6 @@ pub fn lies_on(ring: &[Place], place: Place) -> bool
         at += 1;
     }
     false
-}
-
-/// The first place of another ring that does not lie on this one.
-fn first_off(ring: &[Place], other: &[Place]) -> Option<Place>
-    ensures { result ≡ first_off_ring ring.now other.now }
-{
-    for place in other {
-        let place = *place;
-        if !lies_on(ring, place) {
-            return Some(place);
-        }
-    }
-    None
 }
 
 /// Whether two places are the same.
@@ -67,15 +56,25 @@ fn is_same(one: &[Place], other: &[Place]) -> bool
     true
 }
 
-/// Whether a ring holds another one. A ring does not hold itself, since all its places lie on it.
-pub(crate) fn holds(ring: &[Place], other: &[Place]) -> bool
+/// Whether a ring holds another one. A ring does not hold itself, since all its places lie on it. A place outside its box is
+/// neither on it nor within it.
+pub(crate) fn holds(ring: &[Place], ring_box: GeoBox, other: &[Place]) -> bool
+    requires boxed { IsBoxed ring.now }
+    requires own { ring_box ≡ around ring.now }
+    requires other { IsBoxed other.now }
     ensures { result ≡ holds_ring ring.now other.now }
 {
     if is_same(ring, other) {
         return false;
     }
-    match first_off(ring, other) {
-        None => false,
-        Some(place) => odd_crossings(ring, place),
+    for place in other {
+        let place = *place;
+        if !is_met(box_of_place(place), ring_box) {
+            return false;
+        }
+        if !lies_on(ring, place) {
+            return odd_crossings(ring, place);
+        }
     }
+    false
 }

@@ -1,10 +1,10 @@
-//! A tree of boxes around rings: what meets a ring's box is found by few steps, however many rings there are.
+//! A tree of boxes around rings: those around a place are found by few steps, however many rings there are.
 ghost use Rattle.std.specs.Prelude.{◌≡◌, ◌≤◌, ◌<◌, ◌++◌, ◌∷◌, [], ◌/◌, length, map, IfOk, OnOk};
 ghost use Rattle.std.specs.List.{AllByRecursion, filter};
 ghost use Rattle.std.specs.List.Sorted.{IsPermutation};
 ghost use Rattle.lanes_geo.specs.Box.{meets};
 ghost use Rattle.ring_nest.specs.Nesting.{ring_at};
-ghost use Rattle.ring_nest.specs.Around.{IsBoxed, around};
+ghost use Rattle.ring_nest.specs.Around.{IsBoxed, around, start};
 ghost use Rattle.ring_nest.specs.Holders.{IsAsked, IsLeaf, IsTree, box_of_tree, is_holder, numbers_of};
 
 use crate::boxes::{box_around_all, widened};
@@ -134,18 +134,21 @@ pub(crate) fn tree_of(
     Ok(Tree::Halves(around, Box::new(alloc, left)?, Box::new(alloc, right)?))
 }
 
-/// Adds the number of a ring where it holds the asked one. It is told whether their boxes meet; no ring holds itself.
+/// Adds the number of a ring, whose box is told, where it holds the asked one. It is told whether that begins in its box; no
+/// ring holds itself.
 fn add_if_holder(
     is_met: bool,
     rings: &[Places],
     other: usize,
+    other_box: GeoBox,
     number: usize,
     found: &mut Vec<usize>,
 ) -> Result<(), OutOfMemory>
     requires boxed { AllByRecursion IsBoxed rings.now }
     requires other { other < length rings.now }
+    requires own { other_box ≡ around (ring_at rings.now other) }
     requires number { number < length rings.now }
-    requires met { is_met ≡ meets (around (ring_at rings.now number)) (around (ring_at rings.now other)) }
+    requires met { is_met ≡ meets (start (ring_at rings.now number)) (around (ring_at rings.now other)) }
     ensures { OnOk result (found.new.items ≡ found.old.items ++ filter (is_holder rings.now (ring_at rings.now number)) (other ∷ [])) }
 {
     if !is_met {
@@ -154,7 +157,7 @@ fn add_if_holder(
     if other == number {
         return Ok(());
     }
-    if holds(rings[other].as_slice(), rings[number].as_slice()) {
+    if holds(rings[other].as_slice(), other_box, rings[number].as_slice()) {
         found.push(other)?;
         Ok(())
     } else {
@@ -162,7 +165,7 @@ fn add_if_holder(
     }
 }
 
-/// Adds the numbers of a leaf's rings that hold a ring. Those whose boxes do not meet its box are passed over.
+/// Adds the numbers of a leaf's rings that hold a ring. Those in whose boxes it does not begin are passed over.
 /// Not inlined, so that the walk to the leaf stays short.
 #[inline(never)]
 fn add_of_leaf(
@@ -182,13 +185,20 @@ fn add_of_leaf(
     boxes_meet(&leaf.boxes, asked, marks);
     let mut at = 0;
     while leaf.numbers.len() - at > 0 {
-        add_if_holder(marks[at], rings, leaf.numbers[at], number, found)?;
+        add_if_holder(
+            marks[at],
+            rings,
+            leaf.numbers[at],
+            leaf.boxes[at],
+            number,
+            found,
+        )?;
         at += 1;
     }
     Ok(())
 }
 
-/// Adds the numbers of a tree's rings that hold a ring. What lies in a box that does not meet its box is passed over.
+/// Adds the numbers of a tree's rings that hold a ring. What lies in a box in which it does not begin is passed over.
 pub(crate) fn add_holders(
     tree: &Tree,
     rings: &[Places],

@@ -12,7 +12,7 @@ returns-then-not-is_met t c =
     let rings = c.args.rings.now in
     let tree = c.args.tree.now in
     let asked = c.requires.asked in
-    let apart = rw (asked.around_it, c.around_of.ensures) at c.if-not-is_met.ensures in
+    let apart = rw (asked.at_start, c.around_of.ensures) at c.if-not-is_met.ensures in
     let none : filter (is_holder rings (ring_at rings c.args.number)) (numbers_of tree) ≡ [] =
     none_in rings (box_of_tree tree) (ring_at rings c.args.number) (numbers_of tree) asked.boxed
     (boxed_at rings c.args.number asked.boxed asked.within)

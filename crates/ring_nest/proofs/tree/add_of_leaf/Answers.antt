@@ -12,4 +12,4 @@ add_if_holder-requires-clause-met c =
     (rw c.deref.ensures.value at c.boxes_meet.ensures.marked) c.requires.is_leaf.own c.requires.is_leaf.covers within in
     let number : c.index.result.now ≡ get_or numbers c.loop-at.at 0 =
     c.index.ensures ∙ get_or_default_zero numbers c.loop-at.at c.index.result.now within in
-    rw (number, ← c.requires.asked.around_it) mark
+    rw (number, ← c.requires.asked.at_start) mark

@@ -1,6 +1,6 @@
 use Rattle.std.proofs.Common.{◌≡◌, drop}
 use Rattle.ring_nest.specs.Nesting.{first_off}
-use Rattle.ring_nest.proofs.rings.first_off.Given as goal
+use Rattle.ring_nest.proofs.rings.holds.Given as goal
 
 -- it is told by what is left
 abbrev pub invariant-loop-place : goal.invariant-loop-place
