@@ -6,7 +6,7 @@ use Rattle.outside.specs.Inputs.{FilesView}
 use Rattle.outside.specs.Sink.{SinkView}
 use Rattle.outside.specs.declared.disk.Disk.{Ghosts}
 use Rattle.delta_feed.specs.Blocks.{Comes as ComeTo, whole}
-use Rattle.delta_feed.specs.Feeding.{lines_left}
+use Rattle.delta_feed.specs.Feeding.{IsGoing, lines_left}
 use Rattle.delta_feed.specs.declared.block.Block.{Block}
 use Rattle.delta_feed.specs.declared.block.Block.TheVariants as blocks
 use Rattle.delta_feed.specs.declared.block.Stage.TheVariants as stages
@@ -34,6 +34,12 @@ abbrev pub follow_fault : (file : ℕ) → FollowFault → Fault
 follow_fault file (follow.Flow fault) = flow_fault fault
 follow_fault file follow.NotImported = NotImported
 follow_fault file (follow.Gap have got) = Gap file have got
+
+-- a reader reads on in this file, under the limits of the program
+pub record IsReadingOn (file : ℕ) (reader : FeedReader) : Type 0 where
+  pub going : IsGoing reader
+  pub file : reader.file ≡ file
+  pub limits : reader.limits ≡ standard
 
 -- a store may follow another one: it was only made, or does so
 abbrev pub MayFollow : State → Type 0

@@ -1,10 +1,8 @@
 //! A store follows another one through the files of its feed, block by block: each is read, taken in one commit, and told.
 ghost use Rattle.std.specs.Prelude.{◌≡◌, ◌<◌, ◌≤◌, ◌+◌, ℕ, Ok, true, OnOk, replicate};
 ghost use Rattle.std.specs.Result.{result_err};
-ghost use Rattle.osm_base.specs.bounds.Limits.{standard};
 ghost use Rattle.object_fold.specs.Reading.{IsReadAlone, ReadsNoOther};
 ghost use Rattle.outside.specs.Inputs.{FilesView};
-ghost use Rattle.delta_feed.specs.Feeding.{IsGoing, IsSameReader};
 ghost use Rattle.delta_feed.specs.Sound.{IsSound as IsSoundBlock};
 ghost use Rattle.update_flow.specs.Handle.{style_of, view_of};
 ghost use Rattle.update_flow.specs.Follower.{handle_of};
@@ -14,7 +12,7 @@ ghost use Rattle.run_promise.specs.CommandOf.{FitFrom};
 ghost use Rattle.run_promise.specs.Progress.{Progress};
 ghost use Rattle.run_promise.specs.World.{Before, world};
 ghost use Rattle.updater.specs.FileReads.{Among};
-ghost use Rattle.updater.specs.Following.{Follows, FollowsFile, KeepsFollower, KeepsStanding, MayFollow, TakesBlock, TakesNext, follow_fault};
+ghost use Rattle.updater.specs.Following.{Follows, FollowsFile, IsReadingOn, KeepsFollower, KeepsStanding, MayFollow, TakesBlock, TakesNext, follow_fault};
 ghost use Rattle.updater.specs.Heads.{GoesOn, IsHead};
 
 use crate::versions::tell_version;
@@ -69,11 +67,8 @@ fn follow_next<I: Inputs, D: Disk, S: Sink>(
     store: &mut Follower<'_, D>,
     out: &mut S,
 ) -> Result<bool, Fault>
-    requires going { IsGoing reader.old }
-    requires file { reader.old.file ≡ file }
-    requires limits { reader.old.limits ≡ standard }
-    ensures going { OnOk result (IsGoing reader.new) }
-    ensures same { IsSameReader reader.old reader.new }
+    requires reading { IsReadingOn file reader.old }
+    ensures reading { OnOk result (IsReadingOn file reader.new) }
     ensures lines { result ≡ Ok true → reader.old.lines.number < reader.new.lines.number }
     ensures next { (files : FilesView) (old : Before) (start done : Progress) (state : State) → MayFollow state → IsReadAlone file files (I.view inputs.old)
         → IsHead start done state file old files (handle_of store.old) (S.view out.old)

@@ -7,9 +7,11 @@ pub loop-reader-init : goal.loop-reader-init
 loop-reader-init g c =
     let laws = g.met.I.Inputs g.world.𝓛 g.world.𝓜 g.world.𝓡 ((λ s x. x), (λ x. x), (λ x. x), λ x. x) in
     record {
-      going = c.new-reader.ensures.going;
-      file = c.new-reader.ensures.file;
-      limits = c.new-reader.ensures.limits ∙ c.standard-limits.ensures.numbers;
+      reading = record {
+        going = c.new-reader.ensures.going;
+        file = c.new-reader.ensures.file;
+        limits = c.new-reader.ensures.limits ∙ c.standard-limits.ensures.numbers;
+      };
       read = read_none g.I.Inputs.reads g.I.Inputs.view c.args.file c.args.inputs.now (laws.reads_none c.args.inputs.now);
       stays = record { same_disk = refl; same_limits = refl };
       stands = λ opened. opened;
@@ -24,9 +26,7 @@ loop-reader-preserved g c =
     let laws = g.met.I.Inputs g.world.𝓛 g.world.𝓜 g.world.𝓡 ((λ s x. x), (λ x. x), (λ x. x), λ x. x) in
     let own = c.loop-reader.invariant in
     record {
-      going = c.in-Ok-true.ensures.going;
-      file = c.follow_next.ensures.same.file ∙ own.file;
-      limits = c.follow_next.ensures.same.limits ∙ own.limits;
+      reading = c.in-Ok-true.ensures.reading;
       read = read_more g.I.Inputs.reads g.I.Inputs.view c.args.file laws.reads_then c.args.inputs.now c.loop-reader.inputs
           c.follow_next.new.inputs own.read c.follow_next.ensures.read;
       stays = record {
@@ -45,8 +45,8 @@ loop-reader-preserved g c =
 
 pub loop-reader-smaller : goal.loop-reader-smaller
 loop-reader-smaller g c =
-    let within = lines_within c.follow_next.new.reader c.in-Ok-true.ensures.going
-    (c.follow_next.ensures.same.limits ∙ c.loop-reader.invariant.limits) in
+    let reading = c.in-Ok-true.ensures.reading in
+    let within = lines_within c.follow_next.new.reader reading.going reading.limits in
     let rise = c.in-Ok-true.ensures.lines (ap Ok c.in-Ok-true.field-0-test) in
     omega (arith, within, rise)
 

@@ -1,21 +1,18 @@
-use Rattle.std.proofs.Common.{◌≡◌, ◌-◌}
+use Rattle.std.proofs.Common.{◌-◌}
 use Rattle.osm_base.specs.bounds.Limits.{standard}
 use Rattle.object_fold.specs.Reading.{ReadsNoOther}
-use Rattle.delta_feed.specs.Feeding.{IsGoing}
 use Rattle.update_flow.specs.Follower.{StaysOver, handle_of}
 use Rattle.update_flow.specs.State.{State}
 use Rattle.run_promise.specs.Progress.{Progress}
 use Rattle.run_promise.specs.World.{Before}
-use Rattle.updater.specs.Following.{IsWithin, MayFollow, Stands}
+use Rattle.updater.specs.Following.{IsReadingOn, IsWithin, MayFollow, Stands}
 use Rattle.updater.specs.Heads.{IsHead}
 use Rattle.updater.proofs.following.follow_file.Given as goal
 
 -- the blocks so far are taken and told, and those that are left lead on
 abbrev pub invariant-loop-reader : goal.invariant-loop-reader
 invariant-loop-reader g l = record {
-  going : IsGoing l.reader;
-  file : l.reader.file ≡ l.fn.file;
-  limits : l.reader.limits ≡ standard;
+  reading : IsReadingOn l.fn.file l.reader;
   read : ReadsNoOther l.fn.file (λ asked. g.I.Inputs.reads l.fn.inputs asked l.inputs) (g.I.Inputs.view l.fn.inputs) (g.I.Inputs.view
       l.inputs);
   stays : StaysOver l.fn.store l.store;
