@@ -38,7 +38,7 @@ follow_fault file (follow.Gap have got) = Gap file have got
 -- a reader reads on in this file, under the limits of the program
 pub record IsReadingOn (file : ℕ) (reader : FeedReader) : Type 0 where
   pub going : IsGoing reader
-  pub file : reader.file ≡ file
+  pub own : reader.file ≡ file
   pub limits : reader.limits ≡ standard
 
 -- a store may follow another one: it was only made, or does so

@@ -9,7 +9,7 @@ loop-reader-init g c =
     record {
       reading = record {
         going = c.new-reader.ensures.going;
-        file = c.new-reader.ensures.file;
+        own = c.new-reader.ensures.file;
         limits = c.new-reader.ensures.limits ∙ c.standard-limits.ensures.numbers;
       };
       read = read_none g.I.Inputs.reads g.I.Inputs.view c.args.file c.args.inputs.now (laws.reads_none c.args.inputs.now);

@@ -8,13 +8,13 @@ use Rattle.updater.proofs.following.follow_next.Goals as goal
 -- the next block is not read
 pub returns-in-Err-clause-next : goal.returns-in-Err-clause-next
 returns-in-Err-clause-next g c = rw c.in_feed.ensures.fault (λ files old start done state may alone head.
-    not_read_of c.args.reader.now.file c.args.file c.requires.reading.file start done state old files (g.I.Inputs.view c.args.inputs.now)
+    not_read_of c.args.reader.now.file c.args.file c.requires.reading.own start done state old files (g.I.Inputs.view c.args.inputs.now)
     (g.I.Inputs.view c.next.new.inputs) (handle_of c.args.store.now) (g.S.Sink.view c.args.out.now) alone c.next.ensures.read.alone head
     c.args.reader.now c.next.new.self c.requires.reading.limits (option_copied c.style.result) c.style.ensures.style c.in-Err.fault
     c.in-Err.ensures.stopped)
 
 pub returns-in-Err-clause-read : goal.returns-in-Err-clause-read
-returns-in-Err-clause-read g c = read_alone c.args.reader.now.file c.args.file c.requires.reading.file _ _ _ c.next.ensures.read
+returns-in-Err-clause-read g c = read_alone c.args.reader.now.file c.args.file c.requires.reading.own _ _ _ c.next.ensures.read
 
 pub returns-in-Err-clause-keeps : goal.returns-in-Err-clause-keeps
 returns-in-Err-clause-keeps g c = rw c.in_feed.ensures.fault (record {
@@ -29,12 +29,12 @@ returns-in-Err-clause-stands g c = rw c.in_feed.ensures.fault (λ opened. feed_s
 -- the file is at its end
 pub returns-in_default-clause-next : goal.returns-in_default-clause-next
 returns-in_default-clause-next g c = λ files old start done state may alone head.
-    next_over c.args.reader.now.file c.args.file c.requires.reading.file start done state old files (g.I.Inputs.view c.args.inputs.now)
+    next_over c.args.reader.now.file c.args.file c.requires.reading.own start done state old files (g.I.Inputs.view c.args.inputs.now)
     (g.I.Inputs.view c.next.new.inputs) (handle_of c.args.store.now) (g.S.Sink.view c.args.out.now) head c.args.reader.now c.next.new.self
     (option_copied c.style.result) c.in-Ok.found c.in_default.is c.in-Ok.ensures.block
 
 pub returns-in_default-clause-read : goal.returns-in_default-clause-read
-returns-in_default-clause-read g c = read_alone c.args.reader.now.file c.args.file c.requires.reading.file _ _ _ c.next.ensures.read
+returns-in_default-clause-read g c = read_alone c.args.reader.now.file c.args.file c.requires.reading.own _ _ _ c.next.ensures.read
 
 pub returns-in_default-clause-keeps : goal.returns-in_default-clause-keeps
 returns-in_default-clause-keeps g c = record {
@@ -49,7 +49,7 @@ returns-in_default-clause-stands g c = λ opened. record { never = λ page is. a
 -- a block is read
 pub returns-in-Ok-follow_block-clause-next : goal.returns-in-Ok-follow_block-clause-next
 returns-in-Ok-follow_block-clause-next g c = λ files old start done state may alone head.
-    block_told c.args.reader.now.file c.args.file c.requires.reading.file start done state old files (g.I.Inputs.view c.args.inputs.now)
+    block_told c.args.reader.now.file c.args.file c.requires.reading.own start done state old files (g.I.Inputs.view c.args.inputs.now)
     (g.I.Inputs.view c.next.new.inputs) (handle_of c.args.store.now) (g.S.Sink.view c.args.out.now) alone c.next.ensures.read.alone head
     c.args.reader.now c.next.new.self c.requires.reading.limits (option_copied c.style.result) c.style.ensures.style c.in-Ok.found c.in-Some.block
     c.in-Some.is c.in-Ok.ensures.block (handle_of c.follow_block.new.store) (g.S.Sink.view c.follow_block.new.out) None
@@ -57,7 +57,7 @@ returns-in-Ok-follow_block-clause-next g c = λ files old start done state may a
 
 pub returns-in-Err-follow_block-clause-next : goal.returns-in-Err-follow_block-clause-next
 returns-in-Err-follow_block-clause-next g c = λ files old start done state may alone head.
-    block_told c.args.reader.now.file c.args.file c.requires.reading.file start done state old files (g.I.Inputs.view c.args.inputs.now)
+    block_told c.args.reader.now.file c.args.file c.requires.reading.own start done state old files (g.I.Inputs.view c.args.inputs.now)
     (g.I.Inputs.view c.next.new.inputs) (handle_of c.args.store.now) (g.S.Sink.view c.args.out.now) alone c.next.ensures.read.alone head
     c.args.reader.now c.next.new.self c.requires.reading.limits (option_copied c.style.result) c.style.ensures.style c.in-Ok.found c.in-Some.block
     c.in-Some.is c.in-Ok.ensures.block (handle_of c.follow_block.new.store) (g.S.Sink.view c.follow_block.new.out)
@@ -65,10 +65,10 @@ returns-in-Err-follow_block-clause-next g c = λ files old start done state may 
     (λ more. c.in-Err-follow_block.ensures.block files (g.I.Inputs.view c.next.new.inputs) old start done state may more head)
 
 pub returns-in-Ok-follow_block-clause-read : goal.returns-in-Ok-follow_block-clause-read
-returns-in-Ok-follow_block-clause-read g c = read_alone c.args.reader.now.file c.args.file c.requires.reading.file _ _ _ c.next.ensures.read
+returns-in-Ok-follow_block-clause-read g c = read_alone c.args.reader.now.file c.args.file c.requires.reading.own _ _ _ c.next.ensures.read
 
 pub returns-in-Err-follow_block-clause-read : goal.returns-in-Err-follow_block-clause-read
-returns-in-Err-follow_block-clause-read g c = read_alone c.args.reader.now.file c.args.file c.requires.reading.file _ _ _ c.next.ensures.read
+returns-in-Err-follow_block-clause-read g c = read_alone c.args.reader.now.file c.args.file c.requires.reading.own _ _ _ c.next.ensures.read
 
 -- each block takes a line at least
 pub returns-in-Ok-follow_block-clause-lines : goal.returns-in-Ok-follow_block-clause-lines
