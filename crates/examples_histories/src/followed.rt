@@ -15,24 +15,24 @@ use update_flow::{FlowFault, Follower, open_follower};
 pub fn follows_of(alloc: Global, taken: u64, feed: &str, out: &mut String) -> Result<(), End> {
     let mut fewer = formatted(alloc)?;
     let mut more = formatted(alloc)?;
-    block_on(alloc, [&mut fewer, &mut more], taken, feed, out)
+    block_on(alloc, &mut fewer, &mut more, taken, feed, out)
 }
 
 fn block_on(
     alloc: Global,
-    disks: [&mut MemDisk; 2],
+    fewer: &mut MemDisk,
+    more: &mut MemDisk,
     taken: u64,
     feed: &str,
     out: &mut String,
 ) -> Result<(), End> {
-    let [fewer, more] = disks;
     follow(alloc, fewer, taken, feed)?;
     follow(alloc, more, taken.saturating_add(1), feed)?;
     let calls = [fewer.calls(), more.calls()];
     let before = version_of(alloc, fewer)?;
     let after = version_of(alloc, more)?;
-    write!(out, "{before:?} or {after:?}")?;
-    compare(alloc, more, calls, [&before, &after], false)
+    compare(alloc, more, calls, [&before, &after], false)?;
+    Ok(write!(out, "{before:?} or {after:?}")?)
 }
 
 // Takes so many blocks of a feed on the store, which follows another one.
