@@ -29,7 +29,7 @@ pub enum Part {
     Deed,
     /// A store is neither that before a deed nor that after it.
     Store,
-    /// A block is not read, or not taken.
+    /// A block of a feed is not taken.
     Block,
 }
 

@@ -26,40 +26,44 @@ fn block_on(
     feed: &str,
     out: &mut String,
 ) -> Result<(), End> {
-    follow(alloc, fewer, taken, feed)?;
-    follow(alloc, more, taken.saturating_add(1), feed)?;
+    if !follows(alloc, fewer, taken, feed)?
+        || !follows(alloc, more, taken.saturating_add(1), feed)?
+    {
+        return Err(End::Differs(Part::Block, taken));
+    }
     let calls = [fewer.calls(), more.calls()];
     let before = version_of(alloc, fewer)?;
     let after = version_of(alloc, more)?;
-    compare(alloc, more, calls, [&before, &after], false)?;
-    Ok(write!(out, "{before:?} or {after:?}")?)
+    write!(out, "{before:?} or {after:?}")?;
+    compare(alloc, more, calls, [&before, &after], false)
 }
 
-// Takes so many blocks of a feed on the store, which follows another one.
-fn follow(alloc: Global, disk: &mut MemDisk, blocks: u64, feed: &str) -> Result<(), End> {
+// Whether the store follows another one by so many blocks of a feed.
+fn follows(alloc: Global, disk: &mut MemDisk, blocks: u64, feed: &str) -> Result<bool, FlowFault> {
     let limits = Limits::standard();
     let Some(base) = open_follower(alloc, disk, &limits)? else {
-        return Err(End::Refused(FlowFault::AlreadyImported));
+        return Ok(false);
     };
     let mut inputs = MemInputs::new(files_of(alloc, feed)?, Fails::never(alloc));
     let mut store = Follower::over(alloc, disk, base, &limits);
-    take_blocks(alloc, &mut store, blocks, &mut inputs)
+    Ok(takes(alloc, &mut store, blocks, &mut inputs))
 }
 
-fn take_blocks(
+// Whether the store takes so many blocks.
+fn takes(
     alloc: Global,
     store: &mut Follower<'_, MemDisk>,
     blocks: u64,
     inputs: &mut MemInputs,
-) -> Result<(), End> {
+) -> bool {
     let mut reader = FeedReader::new(alloc, 0, &Limits::standard());
-    for number in 0..blocks {
+    for _ in 0..blocks {
         let Ok(Some(block)) = reader.next(alloc, inputs, store.style()) else {
-            return Err(End::Differs(Part::Block, number));
+            return false;
         };
         if store.apply(block).is_err() {
-            return Err(End::Differs(Part::Block, number));
+            return false;
         }
     }
-    Ok(())
+    true
 }
