@@ -29,6 +29,8 @@ pub enum Part {
     Deed,
     /// A store is neither that before a deed nor that after it.
     Store,
+    /// A block of a feed is not taken.
+    Block,
 }
 
 /// Adds the text of an end.
@@ -53,6 +55,7 @@ fn part_text(part: Part) -> &'static str {
         Part::Tiles => "tiles",
         Part::Deed => "deed",
         Part::Store => "store",
+        Part::Block => "block",
     }
 }
 

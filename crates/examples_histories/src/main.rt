@@ -14,6 +14,7 @@ mod deeds;
 mod dice;
 mod differing;
 mod end;
+mod followed;
 mod history;
 mod migrated;
 mod opening;
@@ -21,6 +22,7 @@ mod row;
 mod setting;
 mod step;
 mod stores;
+mod version;
 mod world;
 
 use example_table::{is_told, refuse_row, row_of};

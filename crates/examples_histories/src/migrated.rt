@@ -1,7 +1,7 @@
 //! Crashes in the migration of an example's store.
 ghost use Rattle.bucket_store.specs.Transaction.{IsReady};
 
-use crate::crashed::{PICKS, again, crash};
+use crate::crashed::{PICKS, crash};
 use crate::opening::push_opened;
 use crate::stores::opened;
 use bucket_store::Buckets;
@@ -14,23 +14,18 @@ use update_flow::{Opened, open};
 /// The node whose record is looked at.
 const NODE: u64 = 23;
 
-/// The most calls of a migration.
-const MOST: u64 = 1000;
-
 /// Adds what is found of a store after each crash in its migration: each answer once, in the order in which they come. False: it is
 /// not migrated.
-pub fn push_crashed(alloc: Global, disk: &MemDisk, out: &mut String) -> Result<bool, AllocError> {
-    match again(alloc, disk.bytes()) {
-        Ok(mut own) => push_cut(alloc, &mut own, out),
-        Err(_) => Err(AllocError),
-    }
-}
-
-fn push_cut(alloc: Global, disk: &mut MemDisk, out: &mut String) -> Result<bool, AllocError> {
+pub fn push_crashed(
+    alloc: Global,
+    disk: &mut MemDisk,
+    out: &mut String,
+) -> Result<bool, AllocError> {
+    let begun = disk.calls();
     if !migrates(alloc, disk) {
         return Ok(false);
     }
-    for call in 0..disk.calls().min(MOST) {
+    for call in begun..disk.calls() {
         for pick in PICKS {
             add_left(alloc, disk, call, pick, out)?;
         }

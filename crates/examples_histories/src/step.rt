@@ -4,6 +4,7 @@ use crate::bounded::answers_under;
 use crate::counted::reads_of;
 use crate::crashed::crashes_of;
 use crate::end::{End, push_end};
+use crate::followed::follows_of;
 use crate::history::histories;
 use crate::opening::push_after;
 use crate::setting::{Rules, Setting};
@@ -30,7 +31,7 @@ pub fn answer_of<R: Threads + Sync + Files + AllocGlobal>(
 ) -> io::Result<String> {
     let mut answer = String::new(rt.alloc());
     match kind {
-        "histories" | "limits" | "reads" | "crashes" => {
+        "histories" | "limits" | "reads" | "crashes" | "follows" => {
             push_stepped(rt, rules, kind, given, &mut answer)?
         }
         _ => {
@@ -109,6 +110,7 @@ fn push_answer<R: Threads + Sync>(
             let texts = [first.as_str(), change.as_str(), deed.as_str()];
             crashes_of(rt, alloc, rules, *buckets, texts, out)
         }
+        ("follows", [blocks], [feed]) => follows_of(alloc, *blocks, feed.as_str(), out),
         _ => Ok(out.push_str("no example")?),
     }
 }

@@ -143,8 +143,8 @@ fn entries_of(alloc: Global, text: &str) -> Result<Change, FileFault> {
     }
 }
 
-// The one file of a text.
-fn files_of(alloc: Global, text: &str) -> Result<FileList, AllocError> {
+/// The one file of a text.
+pub fn files_of(alloc: Global, text: &str) -> Result<FileList, AllocError> {
     let mut files = Vec::new(alloc);
     files.push(Bytes::from_vec(Vec::from_slice(alloc, text.as_bytes())?))?;
     Ok(FileList::from_vec(files))
