@@ -2,6 +2,7 @@ pub mod Cutting
 pub mod RoundTrips
 pub mod Soundness
 pub mod Peeks
+pub mod HexSteps
 pub mod Known
 pub mod Turns
 pub mod Trips

@@ -67,7 +67,7 @@ fn full_text(
 {
     let mut out = Vec::new(alloc);
     push_full(&mut out, version)?;
-    push_style(alloc, &mut out, style_bytes)?;
+    push_style(&mut out, style_bytes)?;
     push_rows(alloc, &mut out, tables)?;
     push_end(&mut out)?;
     Ok(out)

@@ -5,7 +5,7 @@ ghost use Rattle.hex.specs.Hex.{encode_lower};
 ghost use Rattle.delta_feed.specs.Text.{delta_line, del_line, ended_line, full_line, joined, kind_letter, lines_behind, more_line, more_lines, row_lines, set_line, set_lines, spot_words, style_line, style_lines, text_of};
 
 use crate::LINE_BYTES;
-use hex::encode;
+use crate::hexes::push_hex;
 use osm_base::{Kind, OutOfMemory, Row, Spot};
 use row_store::row_bytes;
 use std::alloc::Global;
@@ -41,12 +41,12 @@ pub(crate) fn push_end(out: &mut Vec<u8>) -> Result<(), OutOfMemory>
 }
 
 /// Appends the lines of a style.
-pub(crate) fn push_style(alloc: Global, out: &mut Vec<u8>, bytes: &[u8]) -> Result<(), OutOfMemory>
+pub(crate) fn push_style(out: &mut Vec<u8>, bytes: &[u8]) -> Result<(), OutOfMemory>
     ensures lines { OnOk result (out.new.items ≡ out.old.items ++ text_of (style_lines bytes.now)) }
 {
     let (front, behind) = cut(bytes);
-    push_style_line(alloc, out, front)?;
-    push_more(alloc, out, behind)?;
+    push_style_line(out, front)?;
+    push_more(out, behind)?;
     Ok(())
 }
 
@@ -63,7 +63,7 @@ pub(crate) fn push_row(
         None => push_del(out, spot),
         Some(row) => {
             let bytes = row_bytes(alloc, row)?;
-            push_set(alloc, out, spot, bytes.as_slice())
+            push_set(out, spot, bytes.as_slice())
         }
     }
 }
@@ -80,12 +80,12 @@ fn push_del(out: &mut Vec<u8>, spot: Spot) -> Result<(), OutOfMemory>
 }
 
 /// Appends the lines that give a spot a row of these bytes.
-fn push_set(alloc: Global, out: &mut Vec<u8>, spot: Spot, bytes: &[u8]) -> Result<(), OutOfMemory>
+fn push_set(out: &mut Vec<u8>, spot: Spot, bytes: &[u8]) -> Result<(), OutOfMemory>
     ensures lines { OnOk result (out.new.items ≡ out.old.items ++ text_of (set_lines spot bytes.now)) }
 {
     let (front, behind) = cut(bytes);
-    push_set_line(alloc, out, spot, front)?;
-    push_more(alloc, out, behind)?;
+    push_set_line(out, spot, front)?;
+    push_more(out, behind)?;
     Ok(())
 }
 
@@ -102,13 +102,13 @@ fn cut(bytes: &[u8]) -> (&[u8], &[u8])
 }
 
 /// Appends the lines behind the first one of such bytes.
-fn push_more(alloc: Global, out: &mut Vec<u8>, bytes: &[u8]) -> Result<(), OutOfMemory>
+fn push_more(out: &mut Vec<u8>, bytes: &[u8]) -> Result<(), OutOfMemory>
     ensures lines { OnOk result (out.new.items ≡ out.old.items ++ text_of (more_lines (length bytes.now) bytes.now)) }
 {
     let mut rest = bytes;
     while !rest.is_empty() {
         let (front, behind) = cut(rest);
-        push_more_line(alloc, out, front)?;
+        push_more_line(out, front)?;
         rest = behind;
     }
     Ok(())
@@ -116,43 +116,35 @@ fn push_more(alloc: Global, out: &mut Vec<u8>, bytes: &[u8]) -> Result<(), OutOf
 
 /// Appends the first line of a style.
 #[tactic(auto, unfolding(crate::specs::Text::style_line))]
-fn push_style_line(alloc: Global, out: &mut Vec<u8>, bytes: &[u8]) -> Result<(), OutOfMemory>
+fn push_style_line(out: &mut Vec<u8>, bytes: &[u8]) -> Result<(), OutOfMemory>
     ensures line { OnOk result (out.new.items ≡ out.old.items ++ ended_line (style_line bytes.now)) }
 {
-    let digits = encode(alloc, bytes)?;
     out.extend_from_slice(b"style ")?;
-    out.extend_from_slice(digits.as_bytes())?;
+    push_hex(out, bytes)?;
     out.extend_from_slice(b"\n")?;
     Ok(())
 }
 
 /// Appends a line whose bytes go on.
 #[tactic(auto, unfolding(crate::specs::Text::more_line))]
-fn push_more_line(alloc: Global, out: &mut Vec<u8>, bytes: &[u8]) -> Result<(), OutOfMemory>
+fn push_more_line(out: &mut Vec<u8>, bytes: &[u8]) -> Result<(), OutOfMemory>
     ensures line { OnOk result (out.new.items ≡ out.old.items ++ ended_line (more_line bytes.now)) }
 {
-    let digits = encode(alloc, bytes)?;
     out.extend_from_slice(b"more ")?;
-    out.extend_from_slice(digits.as_bytes())?;
+    push_hex(out, bytes)?;
     out.extend_from_slice(b"\n")?;
     Ok(())
 }
 
 /// Appends the first line of a row.
 #[tactic(auto, unfolding(crate::specs::Text::set_line))]
-fn push_set_line(
-    alloc: Global,
-    out: &mut Vec<u8>,
-    spot: Spot,
-    bytes: &[u8],
-) -> Result<(), OutOfMemory>
+fn push_set_line(out: &mut Vec<u8>, spot: Spot, bytes: &[u8]) -> Result<(), OutOfMemory>
     ensures line { OnOk result (out.new.items ≡ out.old.items ++ ended_line (set_line spot bytes.now)) }
 {
-    let digits = encode(alloc, bytes)?;
     out.extend_from_slice(b"set ")?;
     push_spot(out, spot)?;
     out.extend_from_slice(b" ")?;
-    out.extend_from_slice(digits.as_bytes())?;
+    push_hex(out, bytes)?;
     out.extend_from_slice(b"\n")?;
     Ok(())
 }

@@ -9,12 +9,15 @@ use std::alloc::Global;
 use style_read::{Style, TableDef};
 use value_bytes::{Spelled, ValueFault, front_many, push_many};
 
+/// The bytes that few rows are longer than, for which there is room from the start.
+pub(crate) const USUAL_BYTES: usize = 256;
+
 /// The bytes of the cells of a row and of its geometry. For callers outside: the program does not use it.
 pub fn row_bytes(alloc: Global, row: &Row) -> Result<Bytes, OutOfMemory>
     ensures bytes { IfOk result (λ bytes. bytes ≡ row_bytes row.now) }
     ensures is { OnOk result (IsRow (length row.now.cells) row.now) }
 {
-    let mut out = Vec::new(alloc);
+    let mut out = Vec::with_capacity(alloc, USUAL_BYTES)?;
     push_row(&mut out, row)?;
     Ok(Items::from_vec(out))
 }

@@ -7,7 +7,7 @@ ghost use Rattle.row_store.specs.Row.{IsRow};
 ghost use Rattle.row_store.specs.Rows.{table_row_bytes, IsTableRow, rows_bytes, AreRows, AreSpelled};
 ghost use Rattle.store_maps.specs.Rows.{AreRising, Fits, AreKept};
 
-use crate::row::{columns_of, front_row, push_row};
+use crate::row::{USUAL_BYTES, columns_of, front_row, push_row};
 use osm_base::{Bytes, Items, OutOfMemory, TableRow, TableRows};
 use std::alloc::Global;
 use style_read::{Style, TableDef};
@@ -19,7 +19,7 @@ pub fn rows_bytes(alloc: Global, style: &Style, rows: &TableRows) -> Result<Byte
     ensures bytes { IfOk result (λ bytes. bytes ≡ rows_bytes rows.now) }
     ensures are { OnOk result (AreRows style.now.tables rows.now) }
 {
-    let mut out = Vec::new(alloc);
+    let mut out = Vec::with_capacity(alloc, USUAL_BYTES)?;
     push_rows(&mut out, style.tables.as_slice(), rows.as_slice())?;
     Ok(Items::from_vec(out))
 }
