@@ -171,10 +171,10 @@ fn plain_crossings(ring: &[Place], place: Place) -> usize
 }
 
 // Inlined into a loop over places it would share its registers with that loop, and takes a fifth more time.
-/// Whether an odd number of a ring's segments cross the latitude of a place strictly east of it.
+/// How many of a ring's segments cross the latitude of a place strictly east of it.
 #[inline(never)]
-pub fn odd_crossings(ring: &[Place], place: Place) -> bool
-    ensures { result ≡ odd ring.now place }
+pub fn crossings_of(ring: &[Place], place: Place) -> usize
+    ensures { result ≡ crossings ring.now place }
 {
     let mut at = 0;
     let mut count = 0;
@@ -183,5 +183,12 @@ pub fn odd_crossings(ring: &[Place], place: Place) -> bool
         at += 32;
     }
     let (_, rest) = ring.split_at(at);
-    (count + plain_crossings(rest, place)) % 2 == 1
+    count + plain_crossings(rest, place)
+}
+
+/// Whether they are odd in number.
+pub fn odd_crossings(ring: &[Place], place: Place) -> bool
+    ensures { result ≡ odd ring.now place }
+{
+    crossings_of(ring, place) % 2 == 1
 }

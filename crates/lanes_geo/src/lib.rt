@@ -3,7 +3,7 @@
 //! It stands on the places and boxes of `osm_base` and knows nothing of objects or files. Rings are
 //! nested, tiles met and boxes queried by these calls, and none of them takes memory.
 //!
-//! `odd_crossings` tells whether an odd number of a ring's segments cross the latitude of a place
+//! `crossings_of` counts the segments of a ring that cross the latitude of a place
 //! strictly east of it. Thirty-two segments with all ends on one side of the latitude are passed
 //! over by one test. For others the two products of the definition are told by natural numbers of
 //! 64 bits, at most 6480000000000000000, which are added and compared and never subtracted.
@@ -18,5 +18,5 @@ mod grid;
 mod spans;
 
 pub use boxes::{boxes_meet, is_met};
-pub use crossings::{across, along, odd_crossings};
+pub use crossings::{across, along, crossings_of, odd_crossings};
 pub use spans::box_of;

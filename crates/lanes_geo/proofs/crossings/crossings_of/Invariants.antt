@@ -1,6 +1,6 @@
 use Rattle.std.proofs.Common.{◌≡◌, ◌+◌, ◌-◌, ◌≤◌, drop, length}
 use Rattle.lanes_geo.specs.Crossing.{crossings}
-use Rattle.lanes_geo.proofs.crossings.odd_crossings.Given as goal
+use Rattle.lanes_geo.proofs.crossings.crossings_of.Given as goal
 
 -- those so far, and those of what is left
 abbrev pub invariant-loop-at : goal.invariant-loop-at

@@ -1,6 +1,6 @@
 use Rattle.std.proofs.Common.{arith}
 use Rattle.lanes_geo.proofs.Level.{thirty_two_more, few}
-use Rattle.lanes_geo.proofs.crossings.odd_crossings.Goals as goal
+use Rattle.lanes_geo.proofs.crossings.crossings_of.Goals as goal
 
 pub overflow_add-count : goal.overflow_add-count
 overflow_add-count c =
