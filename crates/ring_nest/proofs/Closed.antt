@@ -19,7 +19,7 @@ both : (a b : Bool) → (a && b) ≡ true → (a ≡ true) × (b ≡ true)
 both true b e = (refl, e)
 both false b e = absurd (cc)
 
-abbrev place_at : ℤ → ℤ → PlaceOf
+abbrev pub place_at : ℤ → ℤ → PlaceOf
 place_at lon lat = record { lon = lon; lat = lat }
 
 one_place : (p q : PlaceOf) → same_place p q ≡ true → q ≡ p

@@ -1,14 +1,15 @@
 -- Rings that are passed over, and boxes around boxes.
 use Rattle.std.proofs.Common.{◌≡◌, ℕ, ◌+◌, ◌<◌, suc, zero, refl, arith, List, [], ◌∷◌, ◌++◌, length, take, drop, get_or, Bool, true, false}
-use Rattle.std.proofs.Common.{◌&&◌, ℤ, ◌≤ℤ◌, int_le, pos, add-one, drop-cons}
+use Rattle.std.proofs.Common.{◌&&◌, ℤ, ◌≤ℤ◌, int_le, int_lt, pos, ◌||◌, add-one, drop-cons}
 use Rattle.std.specs.List.{AllByRecursion}
 use Rattle.std.proofs.lemmas.Int.{ints}
 use Rattle.std.proofs.lemmas.List.{take_more}
 use Rattle.osm_base.specs.declared.values.place.GeoBox.{GeoBox}
+use Rattle.osm_base.specs.values.Place.{PlaceOf}
 use Rattle.lanes_geo.specs.Box.{meets}
-use Rattle.ring_nest.specs.Around.{Covers, IsBoxed, around, start}
+use Rattle.ring_nest.specs.Around.{Covers, IsBoxed, around, at_place, is_well_within, may_hold, start}
 use Rattle.ring_nest.specs.Nesting.{Ring, holds}
-use Rattle.ring_nest.proofs.Apart.{holds_none}
+use Rattle.ring_nest.proofs.Apart.{holds_none, holds_none_beside}
 
 fewer : (a b c d p q r s : Bool) → (p ≡ true → a ≡ true) → (q ≡ true → b ≡ true) → (r ≡ true → c ≡ true) → (s ≡ true → d ≡ true)
     → ((a && b) && (c && d)) ≡ false → ((p && q) && (r && s)) ≡ false
@@ -39,6 +40,34 @@ not_met asked block box c none =
 
 pub not_held : (ring other : Ring) → IsBoxed other → IsBoxed ring → meets (start ring) (around other) ≡ false → holds other ring ≡ false
 not_held ring other b a none = holds_none other ring (around other) b.closed b.on_earth a.on_earth b.within none
+
+-- what may not be held by any ring in a box may not by one in a box within it
+less_far : (y z most : ℤ) → z ≤ℤ y → int_lt y most ≡ true → int_lt z most ≡ true
+less_far y z most h e = grind (arith, ints)
+
+less_near : (y z least : ℤ) → y ≤ℤ z → int_lt least y ≡ true → int_lt least z ≡ true
+less_near y z least h e = grind (arith, ints)
+
+well_within_less : (block box : GeoBox) (place : PlaceOf) → Covers block box → is_well_within block place ≡ false → is_well_within box place ≡ false
+well_within_less block box place c none =
+    fewer (int_lt block.west place.lon) (int_lt place.lon block.east) (int_le block.south place.lat) (int_lt place.lat block.north)
+    (int_lt box.west place.lon) (int_lt place.lon box.east) (int_le box.south place.lat) (int_lt place.lat box.north)
+    (less_far box.west block.west place.lon c.west) (less_near box.east block.east place.lon c.east)
+    (lower_end block.south box.south place.lat c.south) (less_near box.north block.north place.lat c.north) none
+
+or_none : (a b : Bool) → (a || b) ≡ false → (a ≡ false) × (b ≡ false)
+or_none false b e = (refl, e)
+or_none true b e = absurd (cc)
+
+pub may_hold_less : (block box : GeoBox) (ring : Ring) → Covers block box → may_hold block ring ≡ false → may_hold box ring ≡ false
+may_hold_less block box [] c none = refl
+may_hold_less block box (p ∷ []) c none = well_within_less block box p c none
+may_hold_less block box (p ∷ q ∷ rest) c none =
+    let parts = or_none (meets (at_place q) block) (is_well_within block p) none in
+    rw (not_met (at_place q) block box c parts.0, well_within_less block box p c parts.1)
+
+pub not_held_beside : (ring other : Ring) → IsBoxed other → IsBoxed ring → may_hold (around other) ring ≡ false → holds other ring ≡ false
+not_held_beside ring other b a none = holds_none_beside other ring (around other) b.closed b.on_earth a.on_earth b.within none
 
 pub all_at : {A : Type 0} (P : A → Type 0) (xs : List A) (at : ℕ) (x : A) → AllByRecursion P xs → at < length xs → x ≡ get_or xs at x → P x
 all_at P [] at x all h e = absurd (omega arith)

@@ -10,25 +10,25 @@ use Rattle.ring_nest.specs.Nesting.{Ring, are_equal, is_between, lies_within, li
 same : (z : ℤ) → int_le z z ≡ true
 same z = grind (arith, ints)
 
-equal : (y z : ℤ) → y ≡ z → are_equal y z ≡ true
+pub equal : (y z : ℤ) → y ≡ z → are_equal y z ≡ true
 equal y z e = rw (e, same z)
 
-first_between : (y z : ℤ) → is_between y z y ≡ true
+pub first_between : (y z : ℤ) → is_between y z y ≡ true
 first_between y z = grind (arith, ints)
 
 last_between : (y z : ℤ) → is_between y z z ≡ true
 last_between y z = grind (arith, ints)
 
-nothing_left : (z : ℤ) → z -ℤ z ≡ pos 0
+pub nothing_left : (z : ℤ) → z -ℤ z ≡ pos 0
 nothing_left z = omega (arith, ints)
 
-start_on : (a b : PlaceOf) → lies_within a (record { start = a; end = b }) ≡ true
+pub start_on : (a b : PlaceOf) → lies_within a (record { start = a; end = b }) ≡ true
 start_on a b =
     let flat : across a (record { start = a; end = b }) ≡ along a (record { start = a; end = b }) =
     rw (nothing_left a.lon, nothing_left a.lat, zero-*ℤ (b.lat -ℤ a.lat), *ℤ-zero (b.lon -ℤ a.lon)) in
     rw (first_between a.lon b.lon, first_between a.lat b.lat, equal _ _ flat)
 
-end_on : (a b : PlaceOf) → lies_within b (record { start = a; end = b }) ≡ true
+pub end_on : (a b : PlaceOf) → lies_within b (record { start = a; end = b }) ≡ true
 end_on a b = rw (last_between a.lon b.lon, last_between a.lat b.lat, same ((b.lon -ℤ a.lon) *ℤ (b.lat -ℤ a.lat)))
 
 or_true : (b : Bool) → (b || true) ≡ true

@@ -1,3 +1,16 @@
+pub mod Depths
+pub mod Marked
+pub mod Counted
+pub mod Lats
+pub mod Near
+pub mod Sums
+pub mod Measured
+pub mod Free
+pub mod Woven
+pub mod RingEdges
+pub mod Halved
+pub mod Ordered
+pub mod Beside
 pub mod Off
 pub mod Closed
 pub mod Apart
@@ -7,3 +20,4 @@ pub mod Walked
 pub mod Owned
 pub mod Filled
 pub mod Outers
+pub mod ByDepth

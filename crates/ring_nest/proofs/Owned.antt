@@ -39,7 +39,7 @@ count_map f p (number ∷ numbers) = rw (
 )
 
 -- a ring is as deep as it has holders
-depth_is : (rings : List Ring) (order : List ℕ) (ring : Ring) → IsPermutation (range_with_len 0 (length rings)) order
+pub depth_is : (rings : List Ring) (order : List ℕ) (ring : Ring) → IsPermutation (range_with_len 0 (length rings)) order
     → length (filter (is_holder rings ring) order) ≡ depth rings ring
 depth_is rings order ring permutation =
     length-filter (is_holder rings ring) order
@@ -65,11 +65,11 @@ any_filter_next : (p q : ℕ → Bool) (number : ℕ) (numbers : List ℕ) (b : 
 any_filter_next p q number numbers true e = ap (λ b. q number || b) e
 any_filter_next p q number numbers false e = e
 
-any_filter : (p q : ℕ → Bool) (numbers : List ℕ) → list_any q (filter p numbers) ≡ list_any (λ number. p number && q number) numbers
+pub any_filter : (p q : ℕ → Bool) (numbers : List ℕ) → list_any q (filter p numbers) ≡ list_any (λ number. p number && q number) numbers
 any_filter p q [] = refl
 any_filter p q (number ∷ numbers) = any_filter_next p q number numbers (p number) (any_filter p q numbers)
 
-any_same : (p q : ℕ → Bool) (from count : ℕ) → ((number : ℕ) → number < from + count → p number ≡ q number)
+pub any_same : (p q : ℕ → Bool) (from count : ℕ) → ((number : ℕ) → number < from + count → p number ≡ q number)
     → list_any p (range_with_len from count) ≡ list_any q (range_with_len from count)
 any_same p q from zero same = refl
 any_same p q from (suc count) same = rw (same from (omega arith), any_same p q (from + 1) count (λ number h. same number (omega arith)))
@@ -110,7 +110,7 @@ stands_next p number from count false o e more =
     let high = next.high in
     record { low = omega (arith, low); high = omega (arith, high); passes = next.passes }
 
-stands : (p : ℕ → Bool) (number from count : ℕ) → list_any (λ n. p n && (n == number)) (range_with_len from count) ≡ true
+pub stands : (p : ℕ → Bool) (number from count : ℕ) → list_any (λ n. p n && (n == number)) (range_with_len from count) ≡ true
     → StandsIn p number from count
 stands p number from zero e = absurd (cc)
 stands p number from (suc count) e = stands_next p number from count (p from && (from == number)) refl e (stands p number (from + 1) count)
@@ -125,7 +125,7 @@ abbrev pub owner_from : List Ring → ℕ → List Ring → Ring → Option ℕ
 owner_from rings number rest other = position_from (λ ring. owns rings ring other) number rest
 
 -- where no number passes, there is no owner
-owner_none : (rings : List Ring) (ring : Ring) (from count : ℕ)
+pub owner_none : (rings : List Ring) (ring : Ring) (from count : ℕ)
     → list_any (λ number. owns rings (ring_at rings number) ring) (range_with_len from count) ≡ false
     → owner_from rings from (map (ring_at rings) (range_with_len from count)) ring ≡ None
 owner_none rings ring from zero e = refl
@@ -152,7 +152,7 @@ some_next own from least rest true any o found low e more =
 some_next own from least rest false any o found low e more = more (after own from least o found low) e
 
 -- the least number that passes is the owner
-owner_some : (rings : List Ring) (ring : Ring) (least from count : ℕ) → owns rings (ring_at rings least) ring ≡ true → from ≤ least
+pub owner_some : (rings : List Ring) (ring : Ring) (least from count : ℕ) → owns rings (ring_at rings least) ring ≡ true → from ≤ least
     → least < from + count
     → list_any (λ number. owns rings (ring_at rings number) ring && nat_lt number least) (range_with_len from count) ≡ false
     → owner_from rings from (map (ring_at rings) (range_with_len from count)) ring ≡ Some least
@@ -164,7 +164,7 @@ owner_some rings ring least from (suc count) found low high e =
     (range_with_len (from + 1) count)) refl found low e
     (λ next none. owner_some rings ring least (from + 1) count found next (omega arith) none)
 
-owns_is : (rings : List Ring) (depths : List ℕ) (ring : Ring) (number : ℕ) → depths ≡ map (depth rings) rings → number < length rings
+pub owns_is : (rings : List Ring) (depths : List ℕ) (ring : Ring) (number : ℕ) → depths ≡ map (depth rings) rings → number < length rings
     → (is_holder rings ring number && is_above depths (depth rings ring) number) ≡ owns rings (ring_at rings number) ring
 owns_is rings depths ring number e h =
     let deep : get_or depths number 0 ≡ depth rings (ring_at rings number) = rw e (get_or-map (depth rings) rings number [] 0 h) in
@@ -278,7 +278,7 @@ all_filter_next : {A : Type 0} (P : A → Type 0) (b : Bool) (x : A) (xs : List 
 all_filter_next P true x xs one all = (one, all)
 all_filter_next P false x xs one all = all
 
-all_filter : {A : Type 0} (P : A → Type 0) (p : A → Bool) (xs : List A) → AllByRecursion P xs → AllByRecursion P (filter p xs)
+pub all_filter : {A : Type 0} (P : A → Type 0) (p : A → Bool) (xs : List A) → AllByRecursion P xs → AllByRecursion P (filter p xs)
 all_filter P p [] all = tt
 all_filter P p (x ∷ xs) all = all_filter_next P (p x) x (filter p xs) all.0 (all_filter P p xs all.1)
 

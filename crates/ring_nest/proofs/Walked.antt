@@ -8,10 +8,10 @@ use Rattle.osm_base.specs.declared.values.place.GeoBox.{GeoBox}
 use Rattle.lanes_geo.specs.Box.{meets}
 use Rattle.ring_nest.specs.declared.tree.Tree.{Tree}
 use Rattle.ring_nest.specs.declared.tree.Tree.TheVariants.{Few, Halves'}
-use Rattle.ring_nest.specs.Around.{Covers, IsBoxed, around, some_box, start}
+use Rattle.ring_nest.specs.Around.{Covers, IsBoxed, around, may_hold, some_box}
 use Rattle.ring_nest.specs.Holders.{IsCovered, IsTree, box_at, box_of_tree, is_holder, numbers_of}
 use Rattle.ring_nest.specs.Nesting.{Ring, ring_at}
-use Rattle.ring_nest.proofs.Held.{all_at, covers_more, next_of, not_held, not_met}
+use Rattle.ring_nest.proofs.Held.{all_at, covers_more, may_hold_less, next_of, not_held_beside}
 
 -- a member is the ring with its number
 pub ring_is : (rings : List Ring) (number : ℕ) (ring : Ring) → number < length rings → ring ≡ get_or rings number ring
@@ -27,16 +27,16 @@ box_is rings number h = get_or-map around rings number [] (some_box None) h
 
 not_in : (rings : List Ring) (box : GeoBox) (ring : Ring) (number : ℕ) → AllByRecursion IsBoxed rings → IsBoxed ring
     → IsCovered (map around rings) box number
-    → meets (start ring) box ≡ false → is_holder rings ring number ≡ false
+    → may_hold box ring ≡ false → is_holder rings ring number ≡ false
 not_in rings box ring number all boxed c none =
     let w = c.within in
     let h : number < length rings = omega (arith, w, length-map rings around) in
     let covered = rw (box_is rings number h) at c.covered in
-    not_held ring (ring_at rings number) (boxed_at rings number all h) boxed
-    (not_met (start ring) box (around (ring_at rings number)) covered none)
+    not_held_beside ring (ring_at rings number) (boxed_at rings number all h) boxed
+    (may_hold_less box (around (ring_at rings number)) ring covered none)
 
 pub none_in : (rings : List Ring) (box : GeoBox) (ring : Ring) (numbers : List ℕ) → AllByRecursion IsBoxed rings → IsBoxed ring
-    → AllByRecursion (IsCovered (map around rings) box) numbers → meets (start ring) box ≡ false
+    → AllByRecursion (IsCovered (map around rings) box) numbers → may_hold box ring ≡ false
     → filter (is_holder rings ring) numbers ≡ []
 none_in rings box ring [] all boxed c none = refl
 none_in rings box ring (number ∷ numbers) all boxed c none =

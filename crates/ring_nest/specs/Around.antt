@@ -1,10 +1,10 @@
 -- The boxes of rings, by which pairs are passed over.
-use Rattle.std.specs.Prelude.{◌≡◌, ◌≤ℤ◌, true, pos, List, [], ◌∷◌, Option, Some, None}
+use Rattle.std.specs.Prelude.{◌≡◌, ◌≤ℤ◌, ◌&&◌, ◌||◌, Bool, true, false, pos, int_le, int_lt, [], ◌∷◌, Option, Some, None}
 use Rattle.std.specs.List.{AllByRecursion}
 use Rattle.osm_base.specs.values.Line.{is_closed}
 use Rattle.osm_base.specs.values.Place.{PlaceOf}
 use Rattle.osm_base.specs.declared.values.place.GeoBox.{GeoBox}
-use Rattle.lanes_geo.specs.Box.{IsWithin, box_of}
+use Rattle.lanes_geo.specs.Box.{IsWithin, box_of, meets}
 use Rattle.lanes_geo.specs.Grid.{IsPlace}
 use Rattle.ring_nest.specs.Nesting.{Ring}
 
@@ -38,3 +38,14 @@ pub record Covers (box other : GeoBox) : Type 0 where
   pub south : box.south ≤ℤ other.south
   pub east : other.east ≤ℤ box.east
   pub north : other.north ≤ℤ box.north
+
+-- whether a place lies in a box, and not on its west, its east or its north side
+abbrev pub is_well_within : GeoBox → PlaceOf → Bool
+is_well_within box place =
+    (int_lt box.west place.lon && int_lt place.lon box.east) && (int_le box.south place.lat && int_lt place.lat box.north)
+
+-- whether a ring in this box may hold another one: by the first two places of that
+abbrev pub may_hold : GeoBox → Ring → Bool
+may_hold box [] = false
+may_hold box (first ∷ []) = is_well_within box first
+may_hold box (first ∷ second ∷ places) = meets (at_place second) box || is_well_within box first

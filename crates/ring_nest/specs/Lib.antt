@@ -2,3 +2,10 @@ pub mod Nesting
 pub mod Polygons
 pub mod Around
 pub mod Holders
+pub mod Edges
+pub mod Slabs
+pub mod Opening
+pub mod Opened
+pub mod Latitudes
+pub mod Told
+pub mod DepthTrees

@@ -3,9 +3,13 @@ ghost use Rattle.std.specs.Prelude.{◌≡◌, ◌≢◌, ◌<◌, ◌≤◌, �
 ghost use Rattle.std.specs.List.{AllByRecursion, range_with_len};
 ghost use Rattle.ring_nest.specs.Nesting.{depth as depth_of_ring, ring_at};
 ghost use Rattle.ring_nest.specs.Around.{IsBoxed, around};
-ghost use Rattle.ring_nest.specs.Holders.{HoldsAll, IsLeast, KeepsHolders, few_of as few_of_list, holders_in, inner_owner, is_above, lesser_of};
+ghost use Rattle.ring_nest.specs.Holders.{HoldsAll, IsLeast, KeepsHolders, few_of as few_of_list, holders_in, inner_owner, is_above};
+ghost use Rattle.ring_nest.specs.Told.{IsKnown};
 
 use crate::boxes::start_of;
+use crate::known::{Known, known_of};
+use crate::owners::{lesser, owners_by_depth};
+use crate::told::told_depth;
 use crate::tree::{LEAF, Tree, add_holders, tree_of};
 use osm_base::{GeoBox, Items, OutOfMemory, Places};
 use std::alloc::Global;
@@ -13,6 +17,12 @@ use std::alloc::Global;
 /// The holders of a ring are kept where they are no more than these. Those of a deeper ring are looked for again when they are
 /// asked for, so that all that is kept grows with the rings alone, however many hold each other.
 pub(crate) const FEW: usize = 8;
+
+/// Of no more rings than these the edges are not asked: to look at each holder costs less.
+const MANY: usize = 64;
+
+/// How many rings, at equal distances, tell whether many rings hold each other.
+const SAMPLES: usize = 16;
 
 /// The rings that hold each ring: how many, and which where they are few.
 #[derive(Drop)]
@@ -139,6 +149,66 @@ fn owners_of(
     Ok(owners)
 }
 
+/// Whether a quarter of some rings have more holders than are kept. Either answer is right: it only tells which way is shorter.
+fn are_deep(alloc: Global, tree: &Tree, rings: &[Places]) -> Result<bool, OutOfMemory>
+    requires tree { HoldsAll rings.now tree.now }
+{
+    let mut mask = [false; LEAF];
+    let step = rings.len() / SAMPLES + 1;
+    let mut deep = 0_usize;
+    let mut at = 0;
+    while at < rings.len() {
+        if holders_of(alloc, tree, rings, at, &mut mask)?.len() > FEW {
+            deep = deep.saturating_add(1);
+        }
+        at = at.saturating_add(step);
+    }
+    Ok(deep > SAMPLES / 4)
+}
+
+/// The depth of a ring: as it is told by the edges, or else by the rings that hold it.
+fn depth_at(
+    alloc: Global,
+    known: &Known,
+    tree: &Tree,
+    rings: &[Places],
+    number: usize,
+    mask: &mut [bool],
+) -> Result<usize, OutOfMemory>
+    requires known { IsKnown rings.now known.now }
+    requires tree { HoldsAll rings.now tree.now }
+    requires within { number < length rings.now }
+    requires mask { length mask.old ≡ LEAF }
+    ensures depth { IfOk result (λ depth. depth ≡ depth_of_ring rings.now (ring_at rings.now number)) }
+    ensures mask { length mask.new ≡ LEAF }
+{
+    if let Some(depth) = told_depth(alloc, known, rings, number, mask)? {
+        return Ok(depth);
+    }
+    Ok(holders_of(alloc, tree, rings, number, mask)?.len())
+}
+
+/// The depth of each ring.
+fn depths_of(
+    alloc: Global,
+    known: &Known,
+    tree: &Tree,
+    rings: &[Places],
+) -> Result<Vec<usize>, OutOfMemory>
+    requires known { IsKnown rings.now known.now }
+    requires tree { HoldsAll rings.now tree.now }
+    ensures { IfOk result (λ depths. depths.items ≡ map (depth_of_ring rings.now) rings.now) }
+{
+    let mut mask = [false; LEAF];
+    let mut depths = Vec::with_capacity(alloc, rings.len())?;
+    let mut at = 0;
+    while rings.len() - at > 0 {
+        depths.push(depth_at(alloc, known, tree, rings, at, &mut mask)?)?;
+        at += 1;
+    }
+    Ok(depths)
+}
+
 /// The depth of each ring, and the ring that each inner one belongs to.
 pub(crate) fn depths_and_owners(
     alloc: Global,
@@ -151,20 +221,17 @@ pub(crate) fn depths_and_owners(
     ensures owners { IfOk result (λ (depths, owners). owners.items ≡ map (inner_owner rings.now) rings.now) }
 {
     let tree = tree_of_all(alloc, rings, boxes)?;
+    if rings.len() > MANY && are_deep(alloc, &tree, rings)? {
+        if let Some(known) = known_of(alloc, rings, boxes)? {
+            let depths = depths_of(alloc, &known, &tree, rings)?;
+            let owners = owners_by_depth(alloc, rings, boxes, &depths)?;
+            return Ok((depths, owners));
+        }
+    }
     let holders = holders_of_each(alloc, &tree, rings)?;
     let owners = owners_of(alloc, &tree, rings, &holders)?;
     let Holders { depths, .. } = holders;
     Ok((depths, owners))
-}
-
-/// The lesser of a number so far, if there is one, and another one.
-fn lesser(so_far: Option<usize>, number: usize) -> usize
-    ensures { result ≡ lesser_of so_far number }
-{
-    match so_far {
-        None => number,
-        Some(least) => { if number < least { number } else { least } }
-    }
 }
 
 /// The least number of the rings that hold a ring and have a depth one less.

@@ -10,16 +10,30 @@
 //! of rings; the code asks only pairs of which the one begins in the box of the other, since a ring holds
 //! none that begins elsewhere. A tree of boxes over the rings, split at the middle of their west or south
 //! sides down to few rings, leads to these: where few boxes lie one over the other, n rings take n log n
-//! steps. What it keeps grows with the rings, however many hold each other: the holders of a ring that has
-//! many are counted, and looked for again where it is an inner one. `lies_on` and `crosses_odd` are exact
-//! in whole numbers of 64 bits. The answer has its own copy of each ring.
+//! steps. Of many rings, the edges tell how deep a ring is, however many hold it: each half line enters a
+//! simple ring as often as it leaves it, or once more, so that how many of these rings have a place within
+//! them is a difference of two counts (`known`, `told`), each found by halving in slabs of latitudes
+//! (`slabs`, `row`). An inner ring asks for its owner the rings of one depth less alone (`owners`). A ring
+//! through whose first place another one may go, or more rings whose edges cross, are asked one by one.
+//! What is kept grows with the rings times a logarithm. `lies_on` and `crosses_odd` are exact in whole
+//! numbers of 64 bits. The answer has its own copy of each ring.
 #![tactic(auto)]
 
 mod boxes;
+mod edges;
 mod holders;
+mod known;
+mod latitudes;
+mod opened;
+mod opening;
+mod owners;
 mod polygons;
+mod ring_edges;
 mod rings;
+mod row;
 mod segment;
+mod slabs;
+mod told;
 mod tree;
 
 pub use polygons::nest;

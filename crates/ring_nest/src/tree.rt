@@ -4,13 +4,13 @@ ghost use Rattle.std.specs.List.{AllByRecursion, filter};
 ghost use Rattle.std.specs.List.Sorted.{IsPermutation};
 ghost use Rattle.lanes_geo.specs.Box.{meets};
 ghost use Rattle.ring_nest.specs.Nesting.{ring_at};
-ghost use Rattle.ring_nest.specs.Around.{IsBoxed, around, start};
+ghost use Rattle.ring_nest.specs.Around.{IsBoxed, around, is_well_within as is_well_within_box, may_hold as box_may_hold, start};
 ghost use Rattle.ring_nest.specs.Holders.{IsAsked, IsLeaf, IsTree, box_of_tree, is_holder, numbers_of};
 
-use crate::boxes::{box_around_all, widened};
+use crate::boxes::{box_around_all, box_of_place, widened};
 use crate::rings::holds;
 use lanes_geo::{boxes_meet, is_met};
-use osm_base::{GeoBox, OutOfMemory, Places};
+use osm_base::{GeoBox, OutOfMemory, Place, Places};
 use std::alloc::Global;
 
 /// How many rings a leaf has at most.
@@ -198,7 +198,30 @@ fn add_of_leaf(
     Ok(())
 }
 
-/// Adds the numbers of a tree's rings that hold a ring. What lies in a box in which it does not begin is passed over.
+/// Whether a place lies in a box, and not on its west, its east or its north side.
+fn is_well_within(around: GeoBox, place: Place) -> bool
+    ensures { result ≡ is_well_within_box around place }
+{
+    let across = (around.west < place.lon) & (place.lon < around.east);
+    let along = (around.south <= place.lat) & (place.lat < around.north);
+    across & along
+}
+
+/// Whether a ring in this box may hold another one. It may not where that begins on a side of the box or beyond it, so that the first
+/// place is within no such ring, and goes on outside the box, so that the second place is in none.
+fn may_hold(around: GeoBox, ring: &[Place]) -> bool
+    ensures { result ≡ box_may_hold around ring.now }
+{
+    match ring {
+        [] => false,
+        [first] => is_well_within(around, *first),
+        [first, second, ..] => {
+            is_met(box_of_place(*second), around) || is_well_within(around, *first)
+        }
+    }
+}
+
+/// Adds the numbers of a tree's rings that hold a ring. What lies in a box in which no ring may hold it is passed over.
 pub(crate) fn add_holders(
     tree: &Tree,
     rings: &[Places],
@@ -212,7 +235,7 @@ pub(crate) fn add_holders(
     requires mask { length mask.old ≡ LEAF }
     ensures { OnOk result (found.new.items ≡ found.old.items ++ filter (is_holder rings.now (ring_at rings.now number)) (numbers_of tree.now)) }
 {
-    if !is_met(asked, around_of(tree)) {
+    if !may_hold(around_of(tree), rings[number].as_slice()) {
         return Ok(());
     }
     match tree {

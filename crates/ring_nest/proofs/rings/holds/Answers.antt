@@ -1,4 +1,4 @@
-use Rattle.std.proofs.Common.{◌≡◌, ◌+◌, ◌∷◌, drop, false, sym}
+use Rattle.std.proofs.Common.{◌≡◌, ◌+◌, ◌∷◌, drop, sym}
 use Rattle.lanes_geo.specs.Grid.{IsPlace}
 use Rattle.ring_nest.specs.Around.{around}
 use Rattle.ring_nest.proofs.Apart.{out_of_it}

@@ -1,0 +1,32 @@
+-- Edges by slabs of latitudes: those that go over a whole slab, and the others by its halves.
+use Rattle.std.specs.Prelude.{◌≡◌, ◌<◌, ◌≤◌, ◌+◌, ◌&&◌, ℕ, Bool, not, nat_lt, List, count_by, if◌then◌else◌}
+use Rattle.ring_nest.specs.declared.edges.Edge.{Edge}
+use Rattle.ring_nest.specs.declared.slabs.Slabs.{Slabs}
+use Rattle.ring_nest.specs.declared.slabs.Slabs.TheVariants.{Empty, Slab'}
+use Rattle.ring_nest.specs.Edges.{IsRow, passes, spans}
+
+-- whether an edge goes over the whole of a slab
+abbrev pub is_across : (low high : ℕ) → Edge → Bool
+is_across low high edge = spans low high edge
+
+-- whether it goes on in the slab's south half, or in its north one
+abbrev pub is_south : (low middle high : ℕ) → Edge → Bool
+is_south low middle high edge = not (spans low high edge) && (nat_lt low edge.high && nat_lt edge.low middle)
+
+abbrev pub is_north : (low middle high : ℕ) → Edge → Bool
+is_north low middle high edge = not (spans low high edge) && (nat_lt middle edge.high && nat_lt edge.low high)
+
+-- how many edges pass a place strictly east of it, as they are counted by slabs
+abbrev pub count_in : Slabs → (north east : ℕ) → ℕ
+count_in Empty north east = 0
+count_in (Slab' row middle p south q upper) north east =
+    count_by (passes north east) row.edges.items + (if nat_lt north middle then count_in south north east else count_in upper north east)
+
+-- slabs between two latitudes
+abbrev pub AreSlabs : (low high : ℕ) → Slabs → Type 0
+AreSlabs low high Empty = Unit {0}
+AreSlabs low high (Slab' row middle p south q upper) = IsRow low high row × AreSlabs low middle south × AreSlabs middle high upper
+
+-- the edges are counted
+abbrev pub Counts : (low high : ℕ) → List Edge → Slabs → Type 0
+Counts low high edges slabs = (north east : ℕ) → low ≤ north → north < high → count_in slabs north east ≡ count_by (passes north east) edges
