@@ -11,7 +11,7 @@ use value_bytes::ValueFault;
 pub fn copied_records(alloc: Global, records: &Records) -> Result<Vec<(u64, Bytes)>, OutOfMemory>
     ensures { IfOk result (λ copies. copies.items ≡ records.now) }
 {
-    let mut copies = Vec::new(alloc);
+    let mut copies = Vec::with_capacity(alloc, records.len())?;
     let (mut place, mut rest) = records.at_mark(0);
     while place < records.len() {
         let (key, value, behind) = records.front(place, rest);

@@ -1,45 +1,42 @@
 -- The laws of places in bytes.
-use Rattle.std.proofs.Common.{◌≡◌, ℕ, ℤ, ◌^◌, ◌<◌, List, ◌++◌, length, refl, sym, ap, ◌∙◌, arith, length-append, append_assoc, subst, pos}
+use Rattle.std.proofs.Common.{◌≡◌, ℕ, ℤ, zero, suc, ◌+◌, ◌*◌, ◌/◌, ◌%◌, ◌^◌, ◌<◌, List, [], ◌∷◌, ◌++◌, length, get_or, refl, sym, ap, ◌∙◌, arith, length-append, subst, pos}
 use Rattle.std.proofs.Common.{negsuc}
-use Rattle.std.proofs.lemmas.Nat.{from_le_bytes-to_le_bytes_4}
+use Rattle.std.proofs.lemmas.Nat.{from_le_bytes-to_le_bytes_4, le_bytes_8}
 use Rattle.std.proofs.lemmas.Int.{of_z-to_z, to_z-of_z, ints}
-use Rattle.std.specs.Int.{w32, from_le_bytes, cast_signed, cast_unsigned}
+use Rattle.std.specs.Int.{w32, w64, from_le_bytes, cast_signed, cast_unsigned}
+use Rattle.std.specs.List.{AllByRecursion}
 use Rattle.std.proofs.Math.Facts.{Fits-of_z}
 use mir.Val.{SFits}
 use Rattle.osm_base.specs.values.Place.{PlaceOf, IsOnEarth}
 use Rattle.value_bytes.specs.Forms.{Begins, IsFront, IsFrontless, both_bytes, Both}
 use Rattle.value_bytes.specs.Places.{four_bytes, IsFour, place_bytes, IsPlace}
-use Rattle.value_bytes.proofs.NumberLaws.{front_same, behind_same}
-use Rattle.value_bytes.proofs.Fronts.{front_both, frontless_first, frontless_second}
+use Rattle.value_bytes.specs.Numbers.{number_bytes, IsNumber}
 use Rattle.value_bytes.proofs.Seen.{AreSeen, front_seen, frontless_seen, unseen}
 
-pub length-four_bytes : (number : ℕ) → length (four_bytes number) ≡ 4
+length-four_bytes : (number : ℕ) → length (four_bytes number) ≡ 4
 unfolding four_bytes
 length-four_bytes number = refl
 
-four_again : (number : ℕ) → IsFour number → from_le_bytes w32 (four_bytes number) ≡ number
+each_low : (bytes : List ℕ) → AllByRecursion (λ byte. byte < 256) bytes → (i : ℕ) → get_or bytes i 0 < 256
+each_low [] low i = omega arith
+each_low (byte ∷ bytes) low zero = low.0
+each_low (byte ∷ bytes) low (suc i) = each_low bytes low.1 i
+
+are_low : (low high : ℕ) → AllByRecursion (λ byte. byte < 256) (four_bytes low ++ four_bytes high)
 unfolding four_bytes
-four_again number small = from_le_bytes-to_le_bytes_4 number small
+are_low low high = (omega arith, (omega arith, (omega arith, (omega arith, (omega arith, (omega arith, (omega arith, (omega arith, tt))))))))
 
-four_same : (one two : ℕ) → IsFour one → IsFour two → four_bytes one ≡ four_bytes two → one ≡ two
-four_same one two is-one is-two same = sym (four_again one is-one) ∙ ap (λ (l : List ℕ). from_le_bytes w32 l) same ∙ four_again two is-two
+joined_sum : (low high : ℕ) → IsFour low → IsFour high → low + high * 2 ^ 32 ≡ from_le_bytes w64 (four_bytes low ++ four_bytes high)
+unfolding four_bytes
+joined_sum low high small few = omega (arith, from_le_bytes-to_le_bytes_4 low small, from_le_bytes-to_le_bytes_4 high few)
 
-pub four_front : (bytes : List ℕ) (number : ℕ) (rest : List ℕ) → Begins four_bytes IsFour bytes number rest
-    → IsFront four_bytes IsFour bytes number rest
-four_front bytes number rest begins = record {
-  begins = begins;
-  alone = λ other behind others.
-      let same = sym others.bytes_are ∙ begins.bytes_are in
-      let long = length-four_bytes other ∙ sym (length-four_bytes number) in (
-        four_same other number others.is begins.is (front_same (four_bytes other) (four_bytes number) behind rest long same),
-        behind_same (four_bytes other) (four_bytes number) behind rest long same,
-      );
-}
-
-pub four_frontless : (bytes : List ℕ) → length bytes < 4 → IsFrontless four_bytes IsFour bytes
-four_frontless bytes short number rest begins =
-    let long = ap (λ (l : List ℕ). length l) begins.bytes_are ∙ length-append (four_bytes number) rest in
-    omega (arith, long, length-four_bytes number)
+-- two numbers of four bytes, the second above the first, are one of eight
+joined : (low high : ℕ) → IsFour low → IsFour high → number_bytes (low + high * 2 ^ 32) ≡ four_bytes low ++ four_bytes high
+unfolding number_bytes
+joined low high small few =
+    let long = length-append (four_bytes low) (four_bytes high) in
+    le_bytes_8 (four_bytes low ++ four_bytes high) (low + high * 2 ^ 32)
+    (omega (arith, long, length-four_bytes low, length-four_bytes high)) (each_low _ (are_low low high)) (joined_sum low high small few)
 
 -- what is on the earth fits four bytes
 pub fits_lon : (lon lat : ℤ) → IsOnEarth lon lat → SFits w32 lon
@@ -75,37 +72,77 @@ one_place lon lat place earth here =
 fours_again : (lon lat : ℕ) → IsFour lon → IsFour lat → fours (record { lon = cast_signed w32 lon; lat = cast_signed w32 lat }) ≡ (lon, lat)
 fours_again lon lat is-lon is-lat = λ i. (of_z-to_z w32 lon is-lon i, of_z-to_z w32 lat is-lat i)
 
-pub place_front : (bytes : List ℕ) (lon : ℕ) (behind : List ℕ) (lat : ℕ) (rest : List ℕ) (place : PlaceOf)
-    → IsFront four_bytes IsFour bytes lon behind → IsFront four_bytes IsFour behind lat rest
-    → place ≡ record { lon = cast_signed w32 lon; lat = cast_signed w32 lat } → IsPlace place → IsFront place_bytes IsPlace bytes place rest
-place_front bytes lon behind lat rest place first second is earth =
-    front_seen (both_bytes four_bytes four_bytes) (Both IsFour IsFour) place_bytes IsPlace fours places_seen bytes (lon, lat) rest
-    (front_both four_bytes IsFour four_bytes IsFour bytes lon behind lat rest first second) place earth
-    (ap fours is ∙ fours_again lon lat first.begins.is second.begins.is)
-    (λ other others here. one_place lon lat other others here ∙ sym is)
+-- a number of eight bytes at the front is both numbers of a place
+unfoldable parts : ℕ → ℕ × ℕ
+parts number = (number % 2 ^ 32, number / 2 ^ 32)
 
-pub place_frontless_lon : (bytes : List ℕ) → IsFrontless four_bytes IsFour bytes → IsFrontless place_bytes IsPlace bytes
-place_frontless_lon bytes none =
-    frontless_seen (both_bytes four_bytes four_bytes) (Both IsFour IsFour) place_bytes IsPlace fours places_seen bytes
-    (frontless_first four_bytes IsFour four_bytes IsFour bytes none)
+parts_fit : (number : ℕ) → IsNumber number → Both IsFour IsFour (parts number)
+unfolding parts
+parts_fit number is = (omega arith, omega arith)
 
-pub place_frontless_lat : (bytes : List ℕ) (lon : ℕ) (behind : List ℕ) → IsFront four_bytes IsFour bytes lon behind
-    → IsFrontless four_bytes IsFour behind → IsFrontless place_bytes IsPlace bytes
-place_frontless_lat bytes lon behind first none =
+parts_bytes : (number : ℕ) → IsNumber number → number_bytes number ≡ both_bytes four_bytes four_bytes (parts number)
+unfolding parts
+parts_bytes number is =
+    let whole : number ≡ number % 2 ^ 32 + number / 2 ^ 32 * 2 ^ 32 = omega arith in
+    let fit = parts_fit number is in
+    ap number_bytes whole ∙ joined (number % 2 ^ 32) (number / 2 ^ 32) fit.0 fit.1
+
+parts_again : (low high : ℕ) → IsFour low → IsFour high → (low, high) ≡ parts (low + high * 2 ^ 32)
+unfolding parts
+parts_again low high small few =
+    let lows : low ≡ (low + high * 2 ^ 32) % 2 ^ 32 = omega arith in
+    let highs : high ≡ (low + high * 2 ^ 32) / 2 ^ 32 = omega arith in
+    λ i. (lows i, highs i)
+
+begins_joined : (bytes : List ℕ) (p : ℕ × ℕ) (rest : List ℕ) → Begins (both_bytes four_bytes four_bytes) (Both IsFour IsFour) bytes p rest
+    → Begins number_bytes IsNumber bytes (p.0 + p.1 * 2 ^ 32) rest
+begins_joined bytes p rest begins = record {
+  is = omega (arith, begins.is.0, begins.is.1);
+  bytes_are = begins.bytes_are ∙ ap (λ (l : List ℕ). l ++ rest) (sym (joined p.0 p.1 begins.is.0 begins.is.1));
+}
+
+both_front : (bytes : List ℕ) (number : ℕ) (rest : List ℕ) → IsFront number_bytes IsNumber bytes number rest
+    → IsFront (both_bytes four_bytes four_bytes) (Both IsFour IsFour) bytes (parts number) rest
+both_front bytes number rest front = record {
+  begins = record {
+    is = parts_fit number front.begins.is;
+    bytes_are = front.begins.bytes_are ∙ ap (λ (l : List ℕ). l ++ rest) (parts_bytes number front.begins.is);
+  };
+  alone = λ other behind begins.
+      let same = front.alone (other.0 + other.1 * 2 ^ 32) behind (begins_joined bytes other behind begins) in
+      (parts_again other.0 other.1 begins.is.0 begins.is.1 ∙ ap parts same.0, same.1);
+}
+
+pub place_front : (bytes : List ℕ) (number : ℕ) (rest : List ℕ) (place : PlaceOf) → IsFront number_bytes IsNumber bytes number rest
+    → place ≡ record { lon = cast_signed w32 (number % 2 ^ 32); lat = cast_signed w32 (number / 2 ^ 32) } → IsPlace place
+    → IsFront place_bytes IsPlace bytes place rest
+unfolding parts
+place_front bytes number rest place front is earth =
+    let fit = parts_fit number front.begins.is in
+    front_seen (both_bytes four_bytes four_bytes) (Both IsFour IsFour) place_bytes IsPlace fours places_seen bytes (parts number) rest
+    (both_front bytes number rest front) place earth
+    (ap fours is ∙ fours_again (number % 2 ^ 32) (number / 2 ^ 32) fit.0 fit.1)
+    (λ other others here. one_place (number % 2 ^ 32) (number / 2 ^ 32) other others here ∙ sym is)
+
+pub place_frontless : (bytes : List ℕ) → IsFrontless number_bytes IsNumber bytes → IsFrontless place_bytes IsPlace bytes
+place_frontless bytes none =
     frontless_seen (both_bytes four_bytes four_bytes) (Both IsFour IsFour) place_bytes IsPlace fours places_seen bytes
-    (frontless_second four_bytes IsFour four_bytes IsFour bytes lon behind first none)
+    (λ p rest begins. none (p.0 + p.1 * 2 ^ 32) rest (begins_joined bytes p rest begins))
 
 -- numbers of no place on the earth
-pub place_off : (bytes : List ℕ) (lon : ℕ) (behind : List ℕ) (lat : ℕ) (rest : List ℕ)
-    → IsFront four_bytes IsFour bytes lon behind → IsFront four_bytes IsFour behind lat rest
-    → (IsPlace (record { lon = cast_signed w32 lon; lat = cast_signed w32 lat }) → ⊥) → IsFrontless place_bytes IsPlace bytes
-place_off bytes lon behind lat rest first second off =
-    unseen (both_bytes four_bytes four_bytes) (Both IsFour IsFour) place_bytes IsPlace fours places_seen bytes (lon, lat) rest
-    (front_both four_bytes IsFour four_bytes IsFour bytes lon behind lat rest first second)
-    (λ place earth here. off (subst IsPlace (one_place lon lat place earth here) earth))
+pub place_off : (bytes : List ℕ) (number : ℕ) (rest : List ℕ) → IsFront number_bytes IsNumber bytes number rest
+    → (IsPlace (record { lon = cast_signed w32 (number % 2 ^ 32); lat = cast_signed w32 (number / 2 ^ 32) }) → ⊥)
+    → IsFrontless place_bytes IsPlace bytes
+unfolding parts
+place_off bytes number rest front off =
+    unseen (both_bytes four_bytes four_bytes) (Both IsFour IsFour) place_bytes IsPlace fours places_seen bytes (parts number) rest
+    (both_front bytes number rest front)
+    (λ place earth here. off (subst IsPlace (one_place (number % 2 ^ 32) (number / 2 ^ 32) place earth here) earth))
 
--- what was put
-pub place_put : (place : PlaceOf) (old : List ℕ)
-    → (old ++ four_bytes (cast_unsigned w32 place.lon)) ++ four_bytes (cast_unsigned w32 place.lat) ≡ old ++ place_bytes place
+-- what is put
+pub place_put : (place : PlaceOf) → IsPlace place
+    → number_bytes (cast_unsigned w32 place.lon + cast_unsigned w32 place.lat * 2 ^ 32) ≡ place_bytes place
 unfolding place_bytes
-place_put place old = append_assoc old (four_bytes (cast_unsigned w32 place.lon)) (four_bytes (cast_unsigned w32 place.lat))
+place_put place earth =
+    let fit = fours_fit place earth in
+    joined (cast_unsigned w32 place.lon) (cast_unsigned w32 place.lat) fit.0 fit.1

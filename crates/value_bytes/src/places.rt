@@ -1,12 +1,16 @@
 //! Places in bytes.
-ghost use Rattle.std.specs.Prelude.{◌≡◌, ◌++◌, length, OnOk, IfSome, IsNone};
+ghost use Rattle.std.specs.Prelude.{◌≡◌, ◌+◌, ◌*◌, ◌^◌, IfSome, IsNone};
 ghost use Rattle.std.specs.Int.{w32, cast_signed, cast_unsigned};
 ghost use Rattle.value_bytes.specs.Forms.{IsFront, IsFrontless};
-ghost use Rattle.value_bytes.specs.Places.{four_bytes, IsFour, place_bytes, IsPlace};
+ghost use Rattle.value_bytes.specs.Places.{place_bytes, IsPlace};
 
+use crate::numbers::{front_number, push_number};
 use crate::{Spelled, ValueFault};
 use osm_base::{MAX_LAT, MAX_LON, OutOfMemory, Place};
 use std::alloc::Global;
+
+/// How many numbers of four bytes there are.
+const FOURS: u64 = 4_294_967_296;
 
 impl Spelled for Place {
     ghost spell = { place_bytes };
@@ -21,8 +25,7 @@ impl Spelled for Place {
     }
 
     fn push_to(&self, out: &mut Vec<u8>) -> Result<(), OutOfMemory> {
-        push_signed(out, self.lon)?;
-        push_signed(out, self.lat)?;
+        push_number(out, joined(self.lon, self.lat))?;
         Ok(())
     }
 }
@@ -32,13 +35,10 @@ fn front_place(bytes: &[u8]) -> Option<(Place, &[u8])>
     ensures place { IfSome result (λ (place, rest). IsFront place_bytes IsPlace bytes.now place rest.now) }
     ensures none { IsNone result → IsFrontless place_bytes IsPlace bytes.now }
 {
-    let Some((lon, behind)) = front_four(bytes) else {
+    let Some((both, rest)) = front_number(bytes) else {
         return None;
     };
-    let Some((lat, rest)) = front_four(behind) else {
-        return None;
-    };
-    match place_of(lon, lat) {
+    match place_of((both % FOURS) as u32, (both / FOURS) as u32) {
         Some(place) => Some((place, rest)),
         None => None,
     }
@@ -67,41 +67,9 @@ fn place_at(lon: i32, lat: i32) -> Option<Place>
     }
 }
 
-/// The number of four bytes at the front, and the bytes behind it. `None`: there are fewer.
-fn front_four(bytes: &[u8]) -> Option<(u32, &[u8])>
-    ensures number { IfSome result (λ (number, rest). IsFront four_bytes IsFour bytes.now number rest.now) }
-    ensures none { IsNone result → IsFrontless four_bytes IsFour bytes.now }
+/// One number of eight bytes for both of a place, which is written and read at once.
+fn joined(lon: i32, lat: i32) -> u64
+    ensures number { result ≡ cast_unsigned w32 lon + cast_unsigned w32 lat * 2 ^ 32 }
 {
-    if bytes.len() < 4 {
-        return None;
-    }
-    let (front, rest) = bytes.split_at(4);
-    Some((four_of(front), rest))
-}
-
-/// Puts a number of four bytes behind the bytes that are there.
-fn push_four(out: &mut Vec<u8>, number: u32) -> Result<(), OutOfMemory>
-    ensures ok { OnOk result (out.new.items ≡ out.old.items ++ four_bytes number) }
-{
-    let bytes = number.to_le_bytes();
-    out.extend_from_slice(&bytes)?;
-    Ok(())
-}
-
-/// Puts a signed number of four bytes behind the bytes that are there.
-fn push_signed(out: &mut Vec<u8>, number: i32) -> Result<(), OutOfMemory>
-    ensures ok { OnOk result (out.new.items ≡ out.old.items ++ four_bytes (cast_unsigned w32 number)) }
-{
-    push_four(out, number.cast_unsigned())?;
-    Ok(())
-}
-
-/// The number of these four bytes.
-fn four_of(bytes: &[u8]) -> u32
-    requires { length bytes.now ≡ 4 }
-    ensures number { bytes.now ≡ four_bytes result }
-{
-    let mut own = [0; 4];
-    own.copy_from_slice(bytes);
-    u32::from_le_bytes(own)
+    lon.cast_unsigned() as u64 + lat.cast_unsigned() as u64 * FOURS
 }

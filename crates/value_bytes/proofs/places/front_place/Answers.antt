@@ -1,22 +1,15 @@
 use Rattle.std.proofs.Common.{refl}
-use Rattle.value_bytes.proofs.PlaceLaws.{place_front, place_frontless_lon, place_frontless_lat, place_off}
+use Rattle.value_bytes.proofs.PlaceLaws.{place_front, place_frontless, place_off}
 use Rattle.value_bytes.proofs.places.front_place.Goals as goal
 
 pub returns-in_default-clause-none : goal.returns-in_default-clause-none
-returns-in_default-clause-none c none = place_frontless_lon c.args.bytes.now (c.in_default.ensures.none refl)
-
-pub returns-in_default-front_four-clause-none : goal.returns-in_default-front_four-clause-none
-returns-in_default-front_four-clause-none c none =
-    place_frontless_lat c.args.bytes.now c.in-Some.lon c.in-Some.behind.now c.in-Some.ensures.number
-    (c.in_default-front_four.ensures.none refl)
+returns-in_default-clause-none c none = place_frontless c.args.bytes.now (c.in_default.ensures.none refl)
 
 pub returns-in-Some-place_of-clause-place : goal.returns-in-Some-place_of-clause-place
 returns-in-Some-place_of-clause-place c =
-    place_front c.args.bytes.now c.in-Some.lon c.in-Some.behind.now c.in-Some-front_four.lat c.in-Some-front_four.rest.now
-    c.in-Some-place_of.place
-    c.in-Some.ensures.number c.in-Some-front_four.ensures.number c.in-Some-place_of.ensures.place c.in-Some-place_of.ensures.earth
+    place_front c.args.bytes.now c.in-Some.both c.in-Some.rest.now c.in-Some-place_of.place
+    c.in-Some.ensures.number c.in-Some-place_of.ensures.place c.in-Some-place_of.ensures.earth
 
 pub returns-in-None-clause-none : goal.returns-in-None-clause-none
 returns-in-None-clause-none c none =
-    place_off c.args.bytes.now c.in-Some.lon c.in-Some.behind.now c.in-Some-front_four.lat c.in-Some-front_four.rest.now
-    c.in-Some.ensures.number c.in-Some-front_four.ensures.number (c.in-None.ensures.none refl)
+    place_off c.args.bytes.now c.in-Some.both c.in-Some.rest.now c.in-Some.ensures.number (c.in-None.ensures.none refl)
