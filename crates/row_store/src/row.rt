@@ -12,7 +12,7 @@ use value_bytes::{Spelled, ValueFault, front_many, push_many};
 /// The bytes that few rows are longer than, for which there is room from the start.
 pub(crate) const USUAL_BYTES: usize = 256;
 
-/// The bytes of the cells of a row and of its geometry. For callers outside: the program does not use it.
+/// The bytes of the cells of a row and of its geometry.
 pub fn row_bytes(alloc: Global, row: &Row) -> Result<Bytes, OutOfMemory>
     ensures bytes { IfOk result (λ bytes. bytes ≡ row_bytes row.now) }
     ensures is { OnOk result (IsRow (length row.now.cells) row.now) }
@@ -23,7 +23,6 @@ pub fn row_bytes(alloc: Global, row: &Row) -> Result<Bytes, OutOfMemory>
 }
 
 /// The row with these bytes, with a cell for each column of the table.
-/// For callers outside: the program does not use it.
 pub fn read_row(alloc: Global, style: &Style, table: u32, bytes: &[u8]) -> Result<Row, ValueFault>
     requires { table < length style.now.tables }
     ensures row { IfOk result (Spells row_bytes (IsRow (columns_in style.now.tables table)) bytes.now) }
