@@ -1,5 +1,6 @@
 pub mod Depths
 pub mod Marked
+pub mod Spanned
 pub mod Counted
 pub mod Lats
 pub mod Near

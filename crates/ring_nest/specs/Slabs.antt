@@ -1,9 +1,10 @@
 -- Edges by slabs of latitudes: those that go over a whole slab, and the others by its halves.
 use Rattle.std.specs.Prelude.{◌≡◌, ◌<◌, ◌≤◌, ◌+◌, ◌&&◌, ℕ, Bool, not, nat_lt, List, count_by, if◌then◌else◌}
+use Rattle.std.specs.List.{AllByRecursion}
 use Rattle.ring_nest.specs.declared.edges.Edge.{Edge}
 use Rattle.ring_nest.specs.declared.slabs.Slabs.{Slabs}
-use Rattle.ring_nest.specs.declared.slabs.Slabs.TheVariants.{Empty, Slab'}
-use Rattle.ring_nest.specs.Edges.{IsRow, passes, spans}
+use Rattle.ring_nest.specs.declared.slabs.Slabs.TheVariants.{Few, Slab'}
+use Rattle.ring_nest.specs.Edges.{IsEdge, IsRow, passes, spans}
 
 -- whether an edge goes over the whole of a slab
 abbrev pub is_across : (low high : ℕ) → Edge → Bool
@@ -18,13 +19,13 @@ is_north low middle high edge = not (spans low high edge) && (nat_lt middle edge
 
 -- how many edges pass a place strictly east of it, as they are counted by slabs
 abbrev pub count_in : Slabs → (north east : ℕ) → ℕ
-count_in Empty north east = 0
+count_in (Few edges) north east = count_by (passes north east) edges.items
 count_in (Slab' row middle p south q upper) north east =
     count_by (passes north east) row.edges.items + (if nat_lt north middle then count_in south north east else count_in upper north east)
 
 -- slabs between two latitudes
 abbrev pub AreSlabs : (low high : ℕ) → Slabs → Type 0
-AreSlabs low high Empty = Unit {0}
+AreSlabs low high (Few edges) = AllByRecursion IsEdge edges.items
 AreSlabs low high (Slab' row middle p south q upper) = IsRow low high row × AreSlabs low middle south × AreSlabs middle high upper
 
 -- the edges are counted

@@ -1,5 +1,5 @@
 //! The rings that hold each ring, and what follows from them: its depth, and the ring that it belongs to.
-ghost use Rattle.std.specs.Prelude.{◌≡◌, ◌≢◌, ◌<◌, ◌≤◌, ◌%◌, length, map, IfOk};
+ghost use Rattle.std.specs.Prelude.{◌≡◌, ◌≢◌, ◌<◌, ◌≤◌, ◌%◌, length, map, IfOk, IfSome};
 ghost use Rattle.std.specs.List.{AllByRecursion, range_with_len};
 ghost use Rattle.ring_nest.specs.Nesting.{depth as depth_of_ring, ring_at};
 ghost use Rattle.ring_nest.specs.Around.{IsBoxed, around};
@@ -209,6 +209,24 @@ fn depths_of(
     Ok(depths)
 }
 
+/// The depth of each ring by the edges, where they are known. What they are kept in is let go, since what comes behind takes room too.
+fn told_depths(
+    alloc: Global,
+    tree: &Tree,
+    rings: &[Places],
+    boxes: &[GeoBox],
+) -> Result<Option<Vec<usize>>, OutOfMemory>
+    requires boxes { boxes.now ≡ map around rings.now }
+    requires boxed { AllByRecursion IsBoxed rings.now }
+    requires tree { HoldsAll rings.now tree.now }
+    ensures { IfOk result (λ told. IfSome told (λ depths. depths.items ≡ map (depth_of_ring rings.now) rings.now)) }
+{
+    match known_of(alloc, rings, boxes)? {
+        Some(known) => Ok(Some(depths_of(alloc, &known, tree, rings)?)),
+        None => Ok(None),
+    }
+}
+
 /// The depth of each ring, and the ring that each inner one belongs to.
 pub(crate) fn depths_and_owners(
     alloc: Global,
@@ -222,8 +240,7 @@ pub(crate) fn depths_and_owners(
 {
     let tree = tree_of_all(alloc, rings, boxes)?;
     if rings.len() > MANY && are_deep(alloc, &tree, rings)? {
-        if let Some(known) = known_of(alloc, rings, boxes)? {
-            let depths = depths_of(alloc, &known, &tree, rings)?;
+        if let Some(depths) = told_depths(alloc, &tree, rings, boxes)? {
             let owners = owners_by_depth(alloc, rings, boxes, &depths)?;
             return Ok((depths, owners));
         }

@@ -15,7 +15,7 @@
 //! them is a difference of two counts (`known`, `told`), each found by halving in slabs of latitudes
 //! (`slabs`, `row`). An inner ring asks for its owner the rings of one depth less alone (`owners`). A ring
 //! through whose first place another one may go, or more rings whose edges cross, are asked one by one.
-//! What is kept grows with the rings times a logarithm. `lies_on` and `crosses_odd` are exact in whole
+//! What is kept grows with their edges times a logarithm. `lies_on` and `crosses_odd` are exact in whole
 //! numbers of 64 bits. The answer has its own copy of each ring.
 #![tactic(auto)]
 

@@ -1,7 +1,7 @@
 //! Edges that go over a slab of latitudes, and how many of them pass a place on its east side.
 ghost use Rattle.std.specs.Prelude.{◌≡◌, ◌<◌, ◌≤◌, ◌∷◌, true, length, count_by, ℕ};
 ghost use Rattle.std.specs.List.{AllByRecursion};
-ghost use Rattle.ring_nest.specs.Edges.{AreWest, IsRow, Spans, passes as passes_place};
+ghost use Rattle.ring_nest.specs.Edges.{AreWest, IsEdge, IsRow, Spans, passes as passes_place};
 
 use crate::edges::{Edge, halfway, is_west, passes};
 use std::cmp::OrderedFloat;
@@ -65,8 +65,8 @@ fn count_ordered(low: u32, high: u32, edges: &[Edge], north: u32, east: u32) -> 
 }
 
 /// How many edges pass a place strictly east of it.
-fn count_each(edges: &[Edge], low: u32, high: u32, north: u32, east: u32) -> usize
-    requires edges { AllByRecursion (Spans low high) edges.now }
+pub(crate) fn count_each(edges: &[Edge], north: u32, east: u32) -> usize
+    requires edges { AllByRecursion IsEdge edges.now }
     requires east { east ≤ 3600000000 }
     ensures count { result ≡ count_by (passes_place north east) edges.now }
 {
@@ -104,7 +104,7 @@ impl Row {
         if self.is_ordered {
             count_ordered(low, high, &self.edges, north, east)
         } else {
-            count_each(&self.edges, low, high, north, east)
+            count_each(&self.edges, north, east)
         }
     }
 

@@ -5,15 +5,21 @@ ghost use Rattle.ring_nest.specs.Edges.{IsEdge};
 ghost use Rattle.ring_nest.specs.Slabs.{AreSlabs, Counts, count_in, is_across, is_north, is_south};
 
 use crate::edges::{Edge, spans};
-use crate::row::{Row, row_of};
+use crate::row::{Row, count_each, row_of};
 use osm_base::OutOfMemory;
 use std::alloc::Global;
+
+/// So few edges are asked one by one.
+const FEW: usize = 16;
+
+/// How many edges of a slab may cross.
+const CROSSING: usize = 64;
 
 /// Edges by slabs.
 #[derive(Drop)]
 pub(crate) enum Slabs {
-    /// None.
-    Empty,
+    /// A few, in no order.
+    Few(Vec<Edge>),
     /// Those that go over the whole of a slab, and the others by its halves, south and north of a latitude.
     Slab(Row, u32, Box<Slabs>, Box<Slabs>),
 }
@@ -27,7 +33,7 @@ pub(crate) fn count(slabs: &Slabs, low: u32, high: u32, north: u32, east: u32) -
     ensures count { result ≡ count_in slabs.now north east }
 {
     match slabs {
-        Slabs::Empty => 0,
+        Slabs::Few(edges) => count_each(edges, north, east) as u64,
         Slabs::Slab(row, middle, south, upper) => {
             let here = row.count(low, high, north, east) as u64;
             if north < *middle {
@@ -49,6 +55,7 @@ fn across(alloc: Global, low: u32, high: u32, edges: &[Edge]) -> Result<Vec<Edge
             found.push(*edge)?;
         }
     }
+    found.shrink_to_fit();
     Ok(found)
 }
 
@@ -128,28 +135,30 @@ pub(crate) fn slabs_of(
     alloc: Global,
     low: u32,
     high: u32,
-    edges: Vec<Edge>,
+    mut edges: Vec<Edge>,
 ) -> Result<Slabs, OutOfMemory>
     requires slab { low < high }
     requires edges { AllByRecursion IsEdge edges.items }
     ensures slabs { IfOk result (AreSlabs low high) }
     ensures counts { IfOk result (Counts low high edges.items) }
 {
-    if edges.is_empty() {
-        return Ok(Slabs::Empty);
+    if edges.len() <= FEW {
+        edges.shrink_to_fit();
+        return Ok(Slabs::Few(edges));
     }
     let row = row_of(low, high, across(alloc, low, high, &edges)?);
     if high - low < 2 {
         return Ok(Slabs::Slab(
             row,
             high,
-            Box::new(alloc, Slabs::Empty)?,
-            Box::new(alloc, Slabs::Empty)?,
+            Box::new(alloc, Slabs::Few(Vec::new(alloc)))?,
+            Box::new(alloc, Slabs::Few(Vec::new(alloc)))?,
         ));
     }
     let middle = middle_of(alloc, low, high, &edges)?;
     let south = south_of(alloc, low, middle, high, &edges)?;
     let north = north_of(alloc, low, middle, high, &edges)?;
+    drop(edges);
     let south = slabs_of(alloc, low, middle, south)?;
     let north = slabs_of(alloc, middle, high, north)?;
     Ok(Slabs::Slab(
@@ -160,15 +169,12 @@ pub(crate) fn slabs_of(
     ))
 }
 
-/// How many edges of a slab may be asked one by one.
-const FEW: usize = 64;
-
 /// Whether a count asks few edges one by one: whether no slab has many edges that cross.
 pub(crate) fn are_quick(slabs: &Slabs) -> bool {
     match slabs {
-        Slabs::Empty => true,
+        Slabs::Few(_) => true,
         Slabs::Slab(row, _, south, upper) => {
-            row.is_quick(FEW) && are_quick(south) && are_quick(upper)
+            row.is_quick(CROSSING) && are_quick(south) && are_quick(upper)
         }
     }
 }

@@ -11,7 +11,7 @@ row_of-row-requires-clause-edges t c =
 pub returns-then-high-low-lt2-clause-counts : goal.returns-then-high-low-lt2-clause-counts
 returns-then-high-low-lt2-clause-counts t c north east from to =
     let whole = rw c.deref.ensures.value at c.in_ok-across.ensures.edges in
-    rw (c.in_ok-new.ensures.ok, c.in_ok-new-2.ensures.ok) (nothing_more (nat_lt north c.args.high) _
+    rw (c.in_ok-new.ensures.ok, c.new.ensures.items, c.in_ok-new-2.ensures.ok, c.new-then-high-low-lt2-2.ensures.items) (nothing_more (nat_lt north c.args.high) _
     ∙ thin_counts c.args.low c.args.high north east c.args.edges.items c.row_of-row.result.edges.items c.in_ok-across.field-0.items
     (omega (arith, c.if-high-low-lt2.true)) from to (c.row_of-row.ensures.count north east) whole)
 
