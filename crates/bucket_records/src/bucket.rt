@@ -1,5 +1,5 @@
 //! A bucket: its records and what a transaction changes in them.
-ghost use Rattle.std.specs.Prelude.{◌≡◌, ◌++◌, ◌+◌, ◌%◌, ◌<◌, ◌≤◌, ◌∷◌, [], List, ℕ, Option, Some, None, length, take, drop, IfOk, IfErr, OnOk, OnErr, MatchOption, IsTrue};
+ghost use Rattle.std.specs.Prelude.{◌≡◌, ◌++◌, ◌+◌, ◌%◌, ◌<◌, ◌≤◌, ◌∷◌, [], List, ℕ, Option, Some, None, length, take, drop, IfOk, IfErr, IfSome, OnOk, OnErr, MatchOption, IsTrue};
 ghost use Rattle.std.specs.FinMap as map;
 ghost use Rattle.bucket_records.specs.Records.{IsBucket, IsNoBucket, AreRecords, records_bytes};
 ghost use Rattle.bucket_records.specs.Changes.{map_of};
@@ -115,6 +115,18 @@ impl Bucket {
         let bytes = merged_bytes(self.alloc, &self.records, &self.changes)?;
         let merged = known_records(self.alloc, bytes)?;
         copied_records(self.alloc, &merged)
+    }
+
+    /// The records, where nothing was changed since they were read but by putting others behind them: nothing is copied.
+    /// `None`: there were other changes.
+    pub fn lent(&self) -> Option<&Records>
+        ensures records { IfSome result (λ records. records.now ≡ map.entries self.now.values) }
+    {
+        if self.changes.is_empty() {
+            Some(&self.records)
+        } else {
+            None
+        }
     }
 
     /// The bytes that it was read from, and those of the map.

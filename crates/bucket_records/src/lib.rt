@@ -20,3 +20,4 @@ mod searching;
 mod spelling;
 
 pub use bucket::Bucket;
+pub use records::Records;

@@ -41,7 +41,7 @@ impl Model for Records {
 
 impl Records {
     /// The records of one bucket of so many, whose bytes these are.
-    pub fn read(
+    pub(crate) fn read(
         alloc: Global,
         bytes: Vec<u8>,
         buckets: u64,
@@ -71,7 +71,7 @@ impl Records {
     }
 
     /// Whether the key is above all of them.
-    pub fn are_below(&self, key: u64) -> bool
+    pub(crate) fn are_below(&self, key: u64) -> bool
         ensures { IsTrue result → (k : ℕ) → k < length self.now → key_of self.now k < key }
     {
         if self.count == 0 {
@@ -81,7 +81,7 @@ impl Records {
     }
 
     /// How many marks there are.
-    pub fn marks(&self) -> usize
+    pub(crate) fn marks(&self) -> usize
         ensures { 1 ≤ result → 1 ≤ length self.now }
     {
         self.marks.len()
@@ -117,7 +117,7 @@ impl Records {
     }
 
     /// The key and the value of the record of this number.
-    pub fn at(&self, place: usize) -> (u64, &[u8])
+    pub(crate) fn at(&self, place: usize) -> (u64, &[u8])
         requires { place < length self.now }
         ensures key { result.0 ≡ key_of self.now place }
         ensures value { result.1.now ≡ value_of self.now place }
@@ -127,7 +127,7 @@ impl Records {
     }
 
     /// The bytes of the records from this number to before that one.
-    pub fn between(&self, from: usize, to: usize) -> &[u8]
+    pub(crate) fn between(&self, from: usize, to: usize) -> &[u8]
         requires order { from ≤ to }
         requires within { to ≤ length self.now }
         ensures bytes { result.now ≡ records_bytes (take (to - from) (drop from self.now)) }
@@ -152,7 +152,7 @@ impl Records {
     }
 
     /// Puts a record behind the others. Where it fails, they are as they were.
-    pub fn push(&mut self, key: u64, value: &[u8]) -> Result<(), OutOfMemory>
+    pub(crate) fn push(&mut self, key: u64, value: &[u8]) -> Result<(), OutOfMemory>
         requires above { (k : ℕ) → k < length self.old → key_of self.old k < key }
         ensures ok { OnOk result (self.new ≡ self.old ++ (key, value.now) ∷ []) }
         ensures rise { OnOk result (AreRecords 0 self.new) }
@@ -176,7 +176,7 @@ impl Records {
     }
 
     /// Their bytes; takes no memory.
-    pub fn into_bytes(self) -> Vec<u8>
+    pub(crate) fn into_bytes(self) -> Vec<u8>
         ensures bytes { result.items ≡ records_bytes self }
         ensures rise { AreRecords 0 self }
     {
@@ -190,7 +190,7 @@ impl Records {
     }
 
     /// The bytes of the first so many of them; takes no memory.
-    pub fn into_front(self, count: usize) -> Vec<u8>
+    pub(crate) fn into_front(self, count: usize) -> Vec<u8>
         requires { count ≤ length self }
         ensures { result.items ≡ records_bytes (take count self) }
     {

@@ -5,7 +5,7 @@ ghost use Rattle.bucket_store.specs.Cache.{Becomes, changed_to};
 
 use crate::places::Places;
 use crate::slots::{Slot, own_of, push, slot_of, take_last, take_next};
-use bucket_records::Bucket;
+use bucket_records::{Bucket, Records};
 use osm_base::{Bytes, OutOfMemory};
 use std::alloc::Global;
 use std::marker::Model;
@@ -116,6 +116,17 @@ impl Cache {
             unreachable!()
         };
         own.bucket.records()
+    }
+
+    /// The records of a bucket that is there, by rising key, where none of them was changed but by putting others behind them.
+    pub fn lent(&self, n: u32) -> Option<&Records>
+        requires { IsSome (map.get self.now n) }
+        ensures records { IfSome result (λ records. (own : Cached) → map.get self.now n ≡ Some own → records.now ≡ map.entries own.bucket.values) }
+    {
+        let Some(own) = own_of(&self.places, self.slots.as_slice(), n) else {
+            unreachable!()
+        };
+        own.bucket.lent()
     }
 
     /// Puts a bucket beside the others. Where it fails, they are as they were.

@@ -9,6 +9,7 @@ use Rattle.std.specs.FinMap.Entries.{find}
 use Rattle.std.specs.FinMap as map
 use Rattle.std.specs.FinMap.{nat_cmp-IsAntisymmetric}
 use Rattle.std.proofs.lemmas.List.{take_more}
+use Rattle.bucket_records.specs.Places.{key_of, value_of}
 use Rattle.bucket_store.specs.Image.{Image, IsBucketOf}
 use Rattle.bucket_store.proofs.Images.{part_gives}
 use Rattle.row_store.proofs.LoadLaws.{decide}
@@ -63,3 +64,10 @@ bucket_is Is which now bucket records are each n bytes there mine =
     found_is Is (map.entries are.own) n bytes
     (sym (map.get-entries are.own n) ∙ part_gives now.root.buckets bucket (now.maps which) are.own n are.part mine ∙ there)
     (subst (λ (l : List Record). AllByRecursion Is l) are.are each)
+
+-- a record of these parts is the one that stands there
+pub one_at : (records : List Record) (place : ℕ) (one : Record) → place < length records → one.0 ≡ key_of records place
+    → one.1 ≡ value_of records place → one ≡ get_or records place one
+one_at [] place one within key value = absurd (omega (arith, within))
+one_at (first ∷ records) zero one within key value = λ i. (key i, value i)
+one_at (first ∷ records) (suc place) one within key value = one_at records place one (omega (arith, within)) key value

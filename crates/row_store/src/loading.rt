@@ -11,6 +11,7 @@ ghost use Rattle.value_bytes.specs.StoreMap.{number_of};
 ghost use Rattle.value_bytes.specs.declared.store_map.StoreMap.TheVariants.{NodeRows, OtherRows};
 
 use crate::read_rows;
+use bucket_records::Records;
 use bucket_store::{Buckets, refuse_value};
 use osm_base::{Bytes, Key, Kind, MAX_ID, OutOfMemory, RowChange, TableRow, TableRows, Tables};
 use outside::Disk;
@@ -104,6 +105,44 @@ fn add_bucket<D: Disk>(
         → TellsRows style.now.tables wanted map rows now → IsSoundAnswer result }
     ensures looks { Looks buckets.old buckets.new result }
 {
+    if buckets.is_bare(map, bucket) {
+        return Ok(());
+    }
+    if let Err(fault) = buckets.bring(map, bucket) {
+        return Err(fault);
+    }
+    let read = match buckets.lent(map, bucket) {
+        Some(records) => add_lent(alloc, style, wanted, map, records, tables),
+        None => return add_copied(alloc, buckets, style, wanted, map, bucket, tables),
+    };
+    match read {
+        Ok(()) => Ok(()),
+        Err(fault) => Err(refuse_value(buckets, map, bucket, fault)),
+    }
+}
+
+// Puts the rows of a bucket of a map among those that are there, out of copies of its records.
+fn add_copied<D: Disk>(
+    alloc: Global,
+    buckets: &mut Buckets<'_, D>,
+    style: &Style,
+    wanted: Option<u32>,
+    map: StoreMap,
+    bucket: u64,
+    tables: &mut Tables,
+) -> Result<(), StoreFault>
+    requires ready { IsReady buckets.old }
+    ensures filled { OnOk result ((rest now : Image) (rows : RowsBySpot) → Has rest now buckets.old
+        → TellsRows style.now.tables wanted map rows now
+        → Fills (number_of map) rows (λ n. IsSome (finite.get (now.maps (number_of map)) n) × (n % now.root.buckets ≡ bucket % now.root.buckets)) tables.old tables.new) }
+    ensures spelled { OnOk result ((rest now : Image) → Has rest now buckets.old → (number : ℕ) (bytes : List ℕ)
+        → finite.get (now.maps (number_of map)) number ≡ Some bytes → number % now.root.buckets ≡ bucket % now.root.buckets
+        → AreRowsOf style.now.tables (number_of map) number bytes) }
+    ensures has { OnOk result ((rest now : Image) → Has rest now buckets.old → Has rest now buckets.new) }
+    ensures sound { (rest now : Image) (rows : RowsBySpot) → Has rest now buckets.old
+        → TellsRows style.now.tables wanted map rows now → IsSoundAnswer result }
+    ensures looks { Looks buckets.old buckets.new result }
+{
     let records = match buckets.records(map, bucket) {
         Ok(records) => records,
         Err(fault) => return Err(fault),
@@ -141,6 +180,33 @@ fn add_records(
         ) {
             return Err(fault);
         }
+    }
+    Ok(())
+}
+
+// Puts the rows that the records of a bucket tell, where they lie in it, among those that are there.
+fn add_lent(
+    alloc: Global,
+    style: &Style,
+    wanted: Option<u32>,
+    map: StoreMap,
+    records: &Records,
+    tables: &mut Tables,
+) -> Result<(), ValueFault>
+    ensures filled { OnOk result ((rows : RowsBySpot) → AllByRecursion (λ one. IsTold style.now.tables wanted (number_of map) rows one.0 one.1) records.now
+        → Fills (number_of map) rows (Among records.now) tables.old tables.new) }
+    ensures spelled { OnOk result (AllByRecursion (λ one. AreRowsOf style.now.tables (number_of map) one.0 one.1) records.now) }
+    ensures sound { (rows : RowsBySpot) → AllByRecursion (λ one. IsTold style.now.tables wanted (number_of map) rows one.0 one.1) records.now
+        → IfErr result (λ fault. fault ≡ faults.OutOfMemory) }
+{
+    let (mut place, mut rest) = records.at_mark(0);
+    while place < records.len() {
+        let (number, bytes, behind) = records.front(place, rest);
+        if let Err(fault) = add_record(alloc, style, wanted, map, number, bytes, tables) {
+            return Err(fault);
+        }
+        rest = behind;
+        place += 1;
     }
     Ok(())
 }

@@ -1,5 +1,5 @@
 //! The buckets of an open store are read and looked at.
-ghost use Rattle.std.specs.Prelude.{◌≡◌, ◌↔◌, ◌%◌, ◌≤◌, ◌<◌, List, ℕ, None, Some, false, IfOk, IsSome, IsTrue, OnOk, MatchOption};
+ghost use Rattle.std.specs.Prelude.{◌≡◌, ◌↔◌, ◌%◌, ◌≤◌, ◌<◌, List, ℕ, None, Some, false, IfOk, IfSome, IsSome, IsTrue, OnOk, MatchOption};
 ghost use Rattle.std.specs.FinMap as finite;
 ghost use Rattle.chain_store.specs.Chains.{first_of};
 ghost use Rattle.chain_store.specs.Directories.{IsString};
@@ -8,6 +8,7 @@ ghost use Rattle.bucket_records.specs.Records.{BucketMap};
 
 use super::Buckets;
 use crate::reading::read_bucket;
+use bucket_records::Records;
 use osm_base::{Bytes, OutOfMemory};
 use outside::Disk;
 use page_journal::StoreFault;
@@ -123,6 +124,17 @@ impl<'d, D: Disk> Buckets<'d, D> {
         ensures found { IfOk result (λ records. (rest now : Image) → Has rest now self.now → IsBucketOf now (number_of map) (key % now.root.buckets) records.items) }
     {
         self.cache.records(self.chain_of(map, key))
+    }
+
+    /// The records of the bucket of a key, which is there, by rising key: nothing is copied. `None`: the transaction has changed
+    /// them, but for putting others behind them; then `records` tells them.
+    pub fn lent(&self, map: StoreMap, key: u64) -> Option<&Records>
+        requires there { IsThere self.now (number_of map) key }
+        ensures records { IfSome result (λ records. (pages : List (List ℕ)) (values : BucketMap)
+            → Content pages self.now (bucket_at self.now (number_of map) key) values → records.now ≡ finite.entries values) }
+        ensures found { IfSome result (λ records. (rest now : Image) → Has rest now self.now → IsBucketOf now (number_of map) (key % now.root.buckets) records.now) }
+    {
+        self.cache.lent(self.chain_of(map, key))
     }
 
     /// The bytes of a string, as the transaction has them.
