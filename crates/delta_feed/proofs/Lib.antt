@@ -8,6 +8,7 @@ pub mod Turns
 pub mod Trips
 pub mod BlockTrips
 pub mod Trees
+pub mod Together
 pub mod LineSteps
 pub mod BlockSteps
 pub mod Once

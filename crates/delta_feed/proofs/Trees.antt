@@ -18,7 +18,7 @@ use Rattle.osm_base.specs.map.Spots.{SpotOf, spot_cmp}
 use Rattle.osm_base.specs.map.SpotTree.{rows_in}
 use Rattle.std.specs.Map.Iter.{deref_pair}
 use Rattle.delta_feed.specs.Text.{ended_line, entry_lines, row_lines, rows_at, table_entries, text_of, told_entries}
-use Rattle.delta_feed.specs.Writing.{told_by}
+use Rattle.delta_feed.specs.Writing.{lent_entries, told_by}
 use Rattle.osm_base.proofs.SpotOrder.{spot_cmp_total, spot_cmp-IsAntisymmetric, tree_cmp, tree_cmp-spot_cmp}
 
 both : (a b : Bool) → T a → T b → T (a && b)
@@ -53,7 +53,7 @@ module _ {X : Type 0} where
 
 -- ---- the text of what stands at spots, one behind the other
 
-text_append : (lines others : List (List ℕ)) → text_of (lines ++ others) ≡ text_of lines ++ text_of others
+pub text_append : (lines others : List (List ℕ)) → text_of (lines ++ others) ≡ text_of lines ++ text_of others
 text_append [] others = refl
 text_append (line ∷ lines) others = ap (λ own. ended_line line ++ own) (text_append lines others)
     ∙ sym (append_assoc (ended_line line) (text_of lines) (text_of others))
@@ -68,20 +68,8 @@ entries_more (entry ∷ entries) spot row =
     ∙ ap (λ own. own ++ text_of (row_lines spot row)) (sym (text_append (row_lines entry.0 entry.1) (entry_lines entries)))
 
 -- entries as they came, and what is written of them
-abbrev pub came_rows : List (Bor SpotOf × Bor Row) → List (SpotOf × Option Row)
-came_rows yielded = map (λ entry. (entry.0.now, Some entry.1.now)) yielded
-
 abbrev pub came_changes : List (Bor SpotOf × Bor RowChange) → List (SpotOf × Option Row)
 came_changes yielded = map (λ entry. (entry.0.now, entry.1.now.row)) yielded
-
-pub rows_more : (out old : List ℕ) (yielded : List (Bor SpotOf × Bor Row)) (spot : Bor SpotOf) (row : Bor Row)
-    → out ≡ old ++ text_of (entry_lines (came_rows yielded))
-    → out ++ text_of (row_lines spot.now (Some row.now)) ≡ old ++ text_of (entry_lines (came_rows (yielded ++ (spot, row) ∷ [])))
-rows_more out old yielded spot row is =
-    ap (λ own. own ++ text_of (row_lines spot.now (Some row.now))) is
-    ∙ append_assoc old (text_of (entry_lines (came_rows yielded))) (text_of (row_lines spot.now (Some row.now)))
-    ∙ ap (λ own. old ++ own) (sym (entries_more (came_rows yielded) spot.now (Some row.now))
-    ∙ ap (λ own. text_of (entry_lines own)) (sym (map-append (λ (entry : Bor SpotOf × Bor Row). (entry.0.now, Some entry.1.now)) yielded ((spot, row) ∷ []))))
 
 pub changes_more : (out old : List ℕ) (yielded : List (Bor SpotOf × Bor RowChange)) (spot : Bor SpotOf) (change : Bor RowChange)
     → out ≡ old ++ text_of (entry_lines (came_changes yielded))
@@ -92,9 +80,9 @@ changes_more out old yielded spot change is =
     ∙ ap (λ own. old ++ own) (sym (entries_more (came_changes yielded) spot.now change.now.row)
     ∙ ap (λ own. text_of (entry_lines own)) (sym (map-append (λ (entry : Bor SpotOf × Bor RowChange). (entry.0.now, entry.1.now.row)) yielded ((spot, change) ∷ []))))
 
-came_rows_are : (yielded : List (Bor SpotOf × Bor Row)) → came_rows yielded ≡ table_entries (map deref_pair yielded)
-came_rows_are [] = refl
-came_rows_are (entry ∷ yielded) = ap (λ own. (entry.0.now, Some entry.1.now) ∷ own) (came_rows_are yielded)
+lent_are : (yielded : List (Bor SpotOf × Bor Row)) → lent_entries yielded ≡ table_entries (map deref_pair yielded)
+lent_are [] = refl
+lent_are (entry ∷ yielded) = ap (λ own. (entry.0.now, Some entry.1.now) ∷ own) (lent_are yielded)
 
 came_changes_are : (yielded : List (Bor SpotOf × Bor RowChange)) → came_changes yielded ≡ told_entries (map deref_pair yielded)
 came_changes_are [] = refl
@@ -102,8 +90,8 @@ came_changes_are (entry ∷ yielded) = ap (λ own. (entry.0.now, entry.1.now.row
 
 -- all that came
 pub rows_told : (yielded : List (Bor SpotOf × Bor Row)) (rows : BTreeMap SpotOf Row) → map deref_pair yielded ≡ rows.entries → IsOrdered tree_cmp rows
-    → came_rows yielded ≡ rows_at (rows_in rows)
-rows_told yielded rows all ordered = came_rows_are yielded ∙ ap table_entries (all ∙ sym (tree_entries rows ordered))
+    → lent_entries yielded ≡ rows_at (rows_in rows)
+rows_told yielded rows all ordered = lent_are yielded ∙ ap table_entries (all ∙ sym (tree_entries rows ordered))
 
 pub changes_told : (yielded : List (Bor SpotOf × Bor RowChange)) (told : BTreeMap SpotOf RowChange) → map deref_pair yielded ≡ told.entries
     → IsOrdered tree_cmp told → came_changes yielded ≡ told_entries (finite.entries (told_by told))

@@ -1,8 +1,10 @@
--- What a sink took of a block that was not written whole.
-use Rattle.std.specs.Prelude.{ℕ, List}
+-- What a sink took of a block that was not written whole, and rows that are lent to be written.
+use Rattle.std.specs.Prelude.{ℕ, List, map, Option, Some}
+use Rattle.std.specs.Borrow.{Bor}
 use Rattle.std.specs.BTreeMap.{BTreeMap}
 use Rattle.std.specs.FinMap as finite
 use Rattle.std.specs.Io.KnownBytes.{Keeps}
+use Rattle.osm_base.specs.declared.values.row.Row.{Row}
 use Rattle.osm_base.specs.declared.values.row.RowChange.{RowChange}
 use Rattle.osm_base.specs.map.Spots.{SpotOf, spot_cmp}
 use Rattle.outside.specs.Bytes.{AppendsPrefix}
@@ -19,3 +21,7 @@ IsUnwritten text old new OutOfMemory = Keeps old.taken new.taken
 -- the changes that a tree has by their spots
 abbrev pub told_by : BTreeMap SpotOf RowChange → finite.FinMap spot_cmp RowChange
 told_by told = finite.from_entries told.entries
+
+-- what stands at the spots of rows that are lent
+abbrev pub lent_entries : List (Bor SpotOf × Bor Row) → List (SpotOf × Option Row)
+lent_entries entries = map (λ entry. (entry.0.now, Some entry.1.now)) entries

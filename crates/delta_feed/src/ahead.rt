@@ -73,7 +73,7 @@ impl Ahead {
         ensures read { ReadsNoOther file (λ asked. I.reads inputs.old asked inputs.new) (I.view inputs.old) (I.view inputs.new) }
     {
         match piece_buffer(alloc) {
-            Ok(mut buffer) => self.read(alloc, inputs, file, &mut buffer),
+            Ok(buffer) => self.read(alloc, inputs, file, buffer),
             Err(_) => Err(FeedFault::OutOfMemory),
         }
     }
@@ -84,33 +84,39 @@ impl Ahead {
         alloc: Global,
         inputs: &mut I,
         file: u32,
-        buffer: &mut [u8],
+        mut buffer: Vec<u8>,
     ) -> Result<bool, FeedFault>
-        requires some { 0 < length buffer.old }
+        requires some { 0 < length buffer.items }
         ensures bytes { IfOk result (λ more. MovesBytes self.old self.new more ((I.view inputs.old).left file) ((I.view inputs.new).left file)) }
         ensures some { IfOk result (λ more. more ≡ true → length self.old < length self.new) }
         ensures none { IfOk result (λ more. more ≡ false → self.new ≡ self.old) }
         ensures stopped { IfErr result (StopsOutside (Rose (I.view inputs.old).faults (I.view inputs.new).faults)) }
         ensures read { ReadsOnce file (λ asked. I.reads inputs.old asked inputs.new) (I.view inputs.old) (I.view inputs.new) }
     {
-        let Ok(count) = inputs.next(file, buffer) else {
+        let Ok(count) = inputs.next(file, buffer.as_mut_slice()) else {
             return Err(FeedFault::ReadFault);
         };
         if count == 0 {
             return Ok(false);
         }
-        if self.keep(alloc, &buffer[..count]).is_err() {
+        buffer.truncate(count);
+        if self.keep(alloc, buffer).is_err() {
             return Err(FeedFault::OutOfMemory);
         }
         Ok(true)
     }
 
-    /// Adds bytes behind those that are here.
-    fn keep(&mut self, alloc: Global, piece: &[u8]) -> Result<(), OutOfMemory>
-        ensures bytes { OnOk result (self.new ≡ self.old ++ piece.now) }
+    /// Adds bytes behind those that are here. Where there are none, nothing is copied.
+    fn keep(&mut self, alloc: Global, piece: Vec<u8>) -> Result<(), OutOfMemory>
+        ensures bytes { OnOk result (self.new ≡ self.old ++ piece.items) }
     {
+        if self.bytes().is_empty() {
+            self.bytes = piece;
+            self.at = 0;
+            return Ok(());
+        }
         let mut bytes = Vec::from_slice(alloc, self.bytes())?;
-        bytes.extend_from_slice(piece)?;
+        bytes.extend_from_slice(piece.as_slice())?;
         self.bytes = bytes;
         self.at = 0;
         Ok(())

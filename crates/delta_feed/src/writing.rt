@@ -2,14 +2,14 @@
 ghost use Rattle.std.specs.Prelude.{◌≡◌, ◌≤◌, ◌++◌, IfOk, IfErr, OnOk};
 ghost use Rattle.std.specs.FinMap as finite;
 ghost use Rattle.std.specs.Io.KnownBytes.{Appends};
-ghost use Rattle.osm_base.specs.map.SpotTree.{rows_in};
 ghost use Rattle.osm_base.specs.map.Spots.{spot_of};
 ghost use Rattle.delta_feed.specs.Text.{changes_at, changes_by_spot, delta_text, entry_lines, full_text, rows_at, text_of, told_entries};
 ghost use Rattle.delta_feed.specs.Writing.{IsUnwritten, told_by};
 
 use crate::FeedWrite;
+use crate::rows::{entries_of, push_entries};
 use crate::written::{push_delta, push_end, push_full, push_row, push_style};
-use osm_base::{Delta, OutOfMemory, Row, RowChange, Spot, Tables, TryCopy};
+use osm_base::{Delta, OutOfMemory, RowChange, Spot, Tables, TryCopy};
 use outside::{Sink, put_all};
 use std::alloc::Global;
 use std::collections::BTreeMap;
@@ -88,20 +88,8 @@ fn delta_text(alloc: Global, delta: &Delta) -> Result<Vec<u8>, OutOfMemory>
 fn push_rows(alloc: Global, out: &mut Vec<u8>, tables: &Tables) -> Result<(), OutOfMemory>
     ensures lines { OnOk result (out.new.items ≡ out.old.items ++ text_of (entry_lines (rows_at tables.now))) }
 {
-    push_tree(alloc, out, tables.rows())
-}
-
-/// Appends the rows of a tree.
-fn push_tree(
-    alloc: Global,
-    out: &mut Vec<u8>,
-    rows: &BTreeMap<Spot, Row>,
-) -> Result<(), OutOfMemory>
-    ensures lines { OnOk result (out.new.items ≡ out.old.items ++ text_of (entry_lines (rows_at (rows_in rows.now)))) }
-{
-    for (spot, row) in rows {
-        push_row(alloc, out, *spot, Some(row))?;
-    }
+    let entries = entries_of(alloc, tables)?;
+    push_entries(alloc, out, &entries)?;
     Ok(())
 }
 
