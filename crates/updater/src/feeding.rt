@@ -17,12 +17,11 @@ ghost use Rattle.updater.specs.Works.{KeepsOpen, KeepsSound, Works, WorksOn};
 
 use crate::file_reads::read_change;
 use change_pipe::ChangeFiles;
-use delta_feed::{FeedWrite, write_delta, write_full};
+use delta_feed::{FeedWrite, write_delta, write_full_by};
 use geom_workers::Hands;
 use object_fold::Change;
 use outside::{Disk, Gate, GatePlace, Inputs, Sink};
 use run_promise::Fault;
-use std::alloc::Global;
 use std::thread::Threads;
 use tile_cover::Bounds;
 use update_flow::Updater;
@@ -38,8 +37,8 @@ fn in_feed(fault: FeedWrite) -> Fault
 }
 
 /// Tells the block of all tables of a store that was imported.
-fn feed_tables<D: Disk, S: Sink>(
-    alloc: Global,
+fn feed_tables<R: Threads + Sync, D: Disk, S: Sink, G: Gate>(
+    hands: &Hands<'_, R, G>,
     store: &mut Updater<'_, D>,
     out: &mut S,
 ) -> Result<(), Fault>
@@ -57,15 +56,23 @@ fn feed_tables<D: Disk, S: Sink>(
         Ok(tables) => tables,
         Err(fault) => return Err(Fault::in_flow(fault)),
     };
-    match write_full(alloc, store.changes(), style.as_slice(), &tables, out) {
+    match write_full_by(
+        hands.rt,
+        hands.alloc,
+        hands.workers.count(),
+        store.changes(),
+        style.as_slice(),
+        &tables,
+        out,
+    ) {
         Ok(()) => Ok(()),
         Err(fault) => Err(in_feed(fault)),
     }
 }
 
 /// Does so where it is asked for.
-pub fn feed_full<D: Disk, S: Sink>(
-    alloc: Global,
+pub fn feed_full<R: Threads + Sync, D: Disk, S: Sink, G: Gate>(
+    hands: &Hands<'_, R, G>,
     full: bool,
     store: &mut Updater<'_, D>,
     out: &mut S,
@@ -77,7 +84,7 @@ pub fn feed_full<D: Disk, S: Sink>(
     ensures sound { KeepsSound (result_err result) (handle_of store.old) (handle_of store.new) }
 {
     if full {
-        return feed_tables(alloc, store, out);
+        return feed_tables(hands, store, out);
     }
     Ok(())
 }

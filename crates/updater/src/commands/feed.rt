@@ -104,7 +104,7 @@ fn feed_store<R: Threads + Sync, I: Inputs, D: Disk, S: Sink, G: Gate>(
         Ok(bounds) => bounds,
         Err(fault) => return Err(fault),
     };
-    match feed_full(hands.alloc, full, store, out) {
+    match feed_full(hands, full, store, out) {
         Ok(()) => {}
         Err(fault) => return Err(fault),
     }

@@ -22,8 +22,8 @@ returns-in-Err-load_tables-clause-feeds g c = rw c.in_flow-in-Err-load_tables.en
     full_unlooked start done held next old files output read (handle_of c.load_tables.new.self) sure c.in-Err-load_tables.fault
     c.in-Err-load_tables.ensures.looks (refused_so c.in-Err-load_tables.ensures.stays))
 
-pub returns-in-Ok-write_full-clause-feeds : goal.returns-in-Ok-write_full-clause-feeds
-returns-in-Ok-write_full-clause-feeds g c = λ next files old start done held head.
+pub returns-in-Ok-write_full_by-clause-feeds : goal.returns-in-Ok-write_full_by-clause-feeds
+returns-in-Ok-write_full_by-clause-feeds g c = λ next files old start done held head.
     let output = g.S.Sink.view c.args.out.now in
     let read = handle_of c.style_bytes.new.self in
     let loaded = handle_of c.load_tables.new.self in
@@ -39,7 +39,7 @@ returns-in-Ok-write_full-clause-feeds g c = λ next files old start done held he
     c.changes.result c.as_slice.result.now c.in-Ok-load_tables.tables c.changes.ensures.number
     (λ opened. c.as_slice.ensures.items ∙ c.in-Ok.ensures.bytes held opened)
     (c.in-Ok-load_tables.ensures.tables held))
-    (g.S.Sink.view c.write_full.new.out) c.write_full.ensures.later c.in-Ok-write_full.ensures.ok
+    (g.S.Sink.view c.write_full_by.new.out) c.write_full_by.ensures.later c.in-Ok-write_full_by.ensures.ok
 
 pub returns-clause-feeds : goal.returns-clause-feeds
 returns-clause-feeds g c = rw c.in_feed.ensures.fault (λ next files old start done held head.
@@ -58,7 +58,7 @@ returns-clause-feeds g c = rw c.in_feed.ensures.fault (λ next files old start d
     c.changes.result c.as_slice.result.now c.in-Ok-load_tables.tables c.changes.ensures.number
     (λ opened. c.as_slice.ensures.items ∙ c.in-Ok.ensures.bytes held opened)
     (c.in-Ok-load_tables.ensures.tables held))
-    (g.S.Sink.view c.write_full.new.out) c.write_full.ensures.later c.in-Err-write_full.fault c.in-Err-write_full.ensures.err)
+    (g.S.Sink.view c.write_full_by.new.out) c.write_full_by.ensures.later c.in-Err-write_full_by.fault c.in-Err-write_full_by.ensures.err)
 
 pub returns-in-Err-clause-sound : goal.returns-in-Err-clause-sound
 returns-in-Err-clause-sound g c = rw c.in_flow.ensures.fault (λ opened.
@@ -71,11 +71,11 @@ returns-in-Err-load_tables-clause-sound g c = rw c.in_flow-in-Err-load_tables.en
     (look_goes (handle_of c.args.store.now) (handle_of c.style_bytes.new.self) c.in-Ok.ensures.sound opened)
     (handle_of c.load_tables.new.self) (handle_of c.load_tables.new.self) c.in-Err-load_tables.ensures.sound)
 
-pub returns-in-Ok-write_full-clause-sound : goal.returns-in-Ok-write_full-clause-sound
-returns-in-Ok-write_full-clause-sound g c = λ opened.
+pub returns-in-Ok-write_full_by-clause-sound : goal.returns-in-Ok-write_full_by-clause-sound
+returns-in-Ok-write_full_by-clause-sound g c = λ opened.
     ends_well (handle_of c.load_tables.new.self)
     (look_goes (handle_of c.style_bytes.new.self) (handle_of c.load_tables.new.self) c.in-Ok-load_tables.ensures.sound
     (look_goes (handle_of c.args.store.now) (handle_of c.style_bytes.new.self) c.in-Ok.ensures.sound opened))
 
 pub returns-clause-sound : goal.returns-clause-sound
-returns-clause-sound g c = rw c.in_feed.ensures.fault (λ opened. block_ends c.in-Err-write_full.fault (handle_of c.load_tables.new.self))
+returns-clause-sound g c = rw c.in_feed.ensures.fault (λ opened. block_ends c.in-Err-write_full_by.fault (handle_of c.load_tables.new.self))
