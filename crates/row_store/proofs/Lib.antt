@@ -4,6 +4,7 @@ pub mod LoadLaws
 pub mod LookLaws
 pub mod Manual
 pub mod MapTables
+pub mod OrderLaws
 pub mod RowLaws
 pub mod RowsLaws
 pub mod SpelledLaws

@@ -1,6 +1,7 @@
 pub mod Clearing
 pub mod Loading
 pub mod Maps
+pub mod Places
 pub mod Row
 pub mod Rows
 pub mod Tables

@@ -10,10 +10,12 @@ ghost use Rattle.row_store.specs.Loading.{Among, AreRowsOf, Fills, HasOnlyRows, 
 ghost use Rattle.value_bytes.specs.StoreMap.{number_of};
 ghost use Rattle.value_bytes.specs.declared.store_map.StoreMap.TheVariants.{NodeRows, OtherRows};
 
+use crate::filling::Filled;
 use crate::read_rows;
+use crate::sorted::{Gathered, SortedRows};
 use bucket_records::Records;
 use bucket_store::{Buckets, refuse_value};
-use osm_base::{Bytes, Key, Kind, MAX_ID, OutOfMemory, RowChange, TableRow, TableRows, Tables};
+use osm_base::{Bytes, Key, Kind, MAX_ID, OutOfMemory, Spot, TableRow, TableRows, Tables};
 use outside::Disk;
 use page_journal::StoreFault;
 use std::alloc::Global;
@@ -44,6 +46,69 @@ pub fn load<D: Disk>(
         → IsSoundAnswer result }
     ensures looks { Looks buckets.old buckets.new result }
 {
+    add_maps(alloc, buckets, style, wanted, tables)
+}
+
+/// The rows that the store has, of all tables or of one, in the order of their spots.
+pub fn load_sorted<D: Disk>(
+    alloc: Global,
+    buckets: &mut Buckets<'_, D>,
+    style: &Style,
+    wanted: Option<u32>,
+) -> Result<SortedRows, StoreFault>
+    requires ready { IsReady buckets.old }
+    ensures nodes { IfOk result (λ found. (rest now : Image) (rows : RowsBySpot) → Has rest now buckets.old
+        → TellsRows style.now.tables wanted NodeRows rows now → TellsRows style.now.tables wanted OtherRows rows now
+        → Fills (number_of NodeRows) rows (λ n. IsSome (finite.get (now.maps (number_of NodeRows)) n)) finite.empty found) }
+    ensures others { IfOk result (λ found. (rest now : Image) (rows : RowsBySpot) → Has rest now buckets.old
+        → TellsRows style.now.tables wanted NodeRows rows now → TellsRows style.now.tables wanted OtherRows rows now
+        → Fills (number_of OtherRows) rows (λ n. IsSome (finite.get (now.maps (number_of OtherRows)) n)) finite.empty found) }
+    // A record that does not spell rows is a refusal, and is never passed over.
+    ensures spelled { OnOk result ((rest now : Image) → Has rest now buckets.old
+        → HasOnlyRows style.now.tables NodeRows now × HasOnlyRows style.now.tables OtherRows now) }
+    ensures has { OnOk result ((rest now : Image) → Has rest now buckets.old → Has rest now buckets.new) }
+    ensures sound { (rest now : Image) (rows : RowsBySpot) → Has rest now buckets.old
+        → TellsRows style.now.tables wanted NodeRows rows now → TellsRows style.now.tables wanted OtherRows rows now
+        → IsSoundAnswer result }
+    ensures looks { Looks buckets.old buckets.new result }
+{
+    let mut gathered = Gathered::new(alloc);
+    if let Err(fault) = add_maps(alloc, buckets, style, wanted, &mut gathered) {
+        return Err(fault);
+    }
+    match gathered.sorted(alloc) {
+        Ok(rows) => Ok(rows),
+        Err(_) => {
+            buckets.refuse();
+            Err(StoreFault::OutOfMemory)
+        }
+    }
+}
+
+// Puts the rows of both maps among those that are there.
+fn add_maps<D: Disk, F: Filled>(
+    alloc: Global,
+    buckets: &mut Buckets<'_, D>,
+    style: &Style,
+    wanted: Option<u32>,
+    tables: &mut F,
+) -> Result<(), StoreFault>
+    requires ready { IsReady buckets.old }
+    ensures nodes { OnOk result ((rest now : Image) (rows : RowsBySpot) → Has rest now buckets.old
+        → TellsRows style.now.tables wanted NodeRows rows now → TellsRows style.now.tables wanted OtherRows rows now
+        → Fills (number_of NodeRows) rows (λ n. IsSome (finite.get (now.maps (number_of NodeRows)) n)) (F.tables tables.old) (F.tables tables.new)) }
+    ensures others { OnOk result ((rest now : Image) (rows : RowsBySpot) → Has rest now buckets.old
+        → TellsRows style.now.tables wanted NodeRows rows now → TellsRows style.now.tables wanted OtherRows rows now
+        → Fills (number_of OtherRows) rows (λ n. IsSome (finite.get (now.maps (number_of OtherRows)) n)) (F.tables tables.old) (F.tables tables.new)) }
+    // A record that does not spell rows is a refusal, and is never passed over.
+    ensures spelled { OnOk result ((rest now : Image) → Has rest now buckets.old
+        → HasOnlyRows style.now.tables NodeRows now × HasOnlyRows style.now.tables OtherRows now) }
+    ensures has { OnOk result ((rest now : Image) → Has rest now buckets.old → Has rest now buckets.new) }
+    ensures sound { (rest now : Image) (rows : RowsBySpot) → Has rest now buckets.old
+        → TellsRows style.now.tables wanted NodeRows rows now → TellsRows style.now.tables wanted OtherRows rows now
+        → IsSoundAnswer result }
+    ensures looks { Looks buckets.old buckets.new result }
+{
     if let Err(fault) = add_map(alloc, buckets, style, wanted, StoreMap::NodeRows, tables) {
         return Err(fault);
     }
@@ -54,18 +119,18 @@ pub fn load<D: Disk>(
 }
 
 // Puts the rows of a map among those that are there.
-fn add_map<D: Disk>(
+fn add_map<D: Disk, F: Filled>(
     alloc: Global,
     buckets: &mut Buckets<'_, D>,
     style: &Style,
     wanted: Option<u32>,
     map: StoreMap,
-    tables: &mut Tables,
+    tables: &mut F,
 ) -> Result<(), StoreFault>
     requires ready { IsReady buckets.old }
     ensures filled { OnOk result ((rest now : Image) (rows : RowsBySpot) → Has rest now buckets.old
         → TellsRows style.now.tables wanted map rows now
-        → Fills (number_of map) rows (λ n. IsSome (finite.get (now.maps (number_of map)) n)) tables.old tables.new) }
+        → Fills (number_of map) rows (λ n. IsSome (finite.get (now.maps (number_of map)) n)) (F.tables tables.old) (F.tables tables.new)) }
     ensures spelled { OnOk result ((rest now : Image) → Has rest now buckets.old → HasOnlyRows style.now.tables map now) }
     ensures has { OnOk result ((rest now : Image) → Has rest now buckets.old → Has rest now buckets.new) }
     ensures sound { (rest now : Image) (rows : RowsBySpot) → Has rest now buckets.old
@@ -84,19 +149,19 @@ fn add_map<D: Disk>(
 }
 
 // Puts the rows of a bucket of a map among those that are there.
-fn add_bucket<D: Disk>(
+fn add_bucket<D: Disk, F: Filled>(
     alloc: Global,
     buckets: &mut Buckets<'_, D>,
     style: &Style,
     wanted: Option<u32>,
     map: StoreMap,
     bucket: u64,
-    tables: &mut Tables,
+    tables: &mut F,
 ) -> Result<(), StoreFault>
     requires ready { IsReady buckets.old }
     ensures filled { OnOk result ((rest now : Image) (rows : RowsBySpot) → Has rest now buckets.old
         → TellsRows style.now.tables wanted map rows now
-        → Fills (number_of map) rows (λ n. IsSome (finite.get (now.maps (number_of map)) n) × (n % now.root.buckets ≡ bucket % now.root.buckets)) tables.old tables.new) }
+        → Fills (number_of map) rows (λ n. IsSome (finite.get (now.maps (number_of map)) n) × (n % now.root.buckets ≡ bucket % now.root.buckets)) (F.tables tables.old) (F.tables tables.new)) }
     ensures spelled { OnOk result ((rest now : Image) → Has rest now buckets.old → (number : ℕ) (bytes : List ℕ)
         → finite.get (now.maps (number_of map)) number ≡ Some bytes → number % now.root.buckets ≡ bucket % now.root.buckets
         → AreRowsOf style.now.tables (number_of map) number bytes) }
@@ -122,19 +187,19 @@ fn add_bucket<D: Disk>(
 }
 
 // Puts the rows of a bucket of a map among those that are there, out of copies of its records.
-fn add_copied<D: Disk>(
+fn add_copied<D: Disk, F: Filled>(
     alloc: Global,
     buckets: &mut Buckets<'_, D>,
     style: &Style,
     wanted: Option<u32>,
     map: StoreMap,
     bucket: u64,
-    tables: &mut Tables,
+    tables: &mut F,
 ) -> Result<(), StoreFault>
     requires ready { IsReady buckets.old }
     ensures filled { OnOk result ((rest now : Image) (rows : RowsBySpot) → Has rest now buckets.old
         → TellsRows style.now.tables wanted map rows now
-        → Fills (number_of map) rows (λ n. IsSome (finite.get (now.maps (number_of map)) n) × (n % now.root.buckets ≡ bucket % now.root.buckets)) tables.old tables.new) }
+        → Fills (number_of map) rows (λ n. IsSome (finite.get (now.maps (number_of map)) n) × (n % now.root.buckets ≡ bucket % now.root.buckets)) (F.tables tables.old) (F.tables tables.new)) }
     ensures spelled { OnOk result ((rest now : Image) → Has rest now buckets.old → (number : ℕ) (bytes : List ℕ)
         → finite.get (now.maps (number_of map)) number ≡ Some bytes → number % now.root.buckets ≡ bucket % now.root.buckets
         → AreRowsOf style.now.tables (number_of map) number bytes) }
@@ -154,16 +219,16 @@ fn add_copied<D: Disk>(
 }
 
 // Puts the rows that these records tell among those that are there.
-fn add_records(
+fn add_records<F: Filled>(
     alloc: Global,
     style: &Style,
     wanted: Option<u32>,
     map: StoreMap,
     records: &[(u64, Bytes)],
-    tables: &mut Tables,
+    tables: &mut F,
 ) -> Result<(), ValueFault>
     ensures filled { OnOk result ((rows : RowsBySpot) → AllByRecursion (λ one. IsTold style.now.tables wanted (number_of map) rows one.0 one.1) records.now
-        → Fills (number_of map) rows (Among records.now) tables.old tables.new) }
+        → Fills (number_of map) rows (Among records.now) (F.tables tables.old) (F.tables tables.new)) }
     ensures spelled { OnOk result (AllByRecursion (λ one. AreRowsOf style.now.tables (number_of map) one.0 one.1) records.now) }
     ensures sound { (rows : RowsBySpot) → AllByRecursion (λ one. IsTold style.now.tables wanted (number_of map) rows one.0 one.1) records.now
         → IfErr result (λ fault. fault ≡ faults.OutOfMemory) }
@@ -185,16 +250,16 @@ fn add_records(
 }
 
 // Puts the rows that the records of a bucket tell, where they lie in it, among those that are there.
-fn add_lent(
+fn add_lent<F: Filled>(
     alloc: Global,
     style: &Style,
     wanted: Option<u32>,
     map: StoreMap,
     records: &Records,
-    tables: &mut Tables,
+    tables: &mut F,
 ) -> Result<(), ValueFault>
     ensures filled { OnOk result ((rows : RowsBySpot) → AllByRecursion (λ one. IsTold style.now.tables wanted (number_of map) rows one.0 one.1) records.now
-        → Fills (number_of map) rows (Among records.now) tables.old tables.new) }
+        → Fills (number_of map) rows (Among records.now) (F.tables tables.old) (F.tables tables.new)) }
     ensures spelled { OnOk result (AllByRecursion (λ one. AreRowsOf style.now.tables (number_of map) one.0 one.1) records.now) }
     ensures sound { (rows : RowsBySpot) → AllByRecursion (λ one. IsTold style.now.tables wanted (number_of map) rows one.0 one.1) records.now
         → IfErr result (λ fault. fault ≡ faults.OutOfMemory) }
@@ -212,17 +277,17 @@ fn add_lent(
 }
 
 // Puts the rows that a record tells among those that are there.
-fn add_record(
+fn add_record<F: Filled>(
     alloc: Global,
     style: &Style,
     wanted: Option<u32>,
     map: StoreMap,
     number: u64,
     bytes: &[u8],
-    tables: &mut Tables,
+    tables: &mut F,
 ) -> Result<(), ValueFault>
     ensures filled { OnOk result ((rows : RowsBySpot) → IsTold style.now.tables wanted (number_of map) rows number bytes.now
-        → Fills (number_of map) rows (λ n. number ≡ n) tables.old tables.new) }
+        → Fills (number_of map) rows (λ n. number ≡ n) (F.tables tables.old) (F.tables tables.new)) }
     ensures spelled { OnOk result (AreRowsOf style.now.tables (number_of map) number bytes.now) }
     ensures sound { (rows : RowsBySpot) → IsTold style.now.tables wanted (number_of map) rows number bytes.now → IfErr result (λ fault. fault ≡ faults.OutOfMemory) }
 {
@@ -240,13 +305,13 @@ fn add_record(
 }
 
 // Puts the wanted ones of a key's rows among those that are there. The first of a table stays.
-fn add_rows(
-    tables: &mut Tables,
+fn add_rows<F: Filled>(
+    tables: &mut F,
     wanted: Option<u32>,
     key: Key,
     rows: TableRows,
 ) -> Result<(), OutOfMemory>
-    ensures ok { OnOk result (tables.new ≡ with_all wanted key rows tables.old) }
+    ensures ok { OnOk result (F.tables tables.new ≡ with_all wanted key rows (F.tables tables.old)) }
 {
     let mut rows = rows.into_vec();
     while let Some(row) = rows.pop() {
@@ -256,24 +321,19 @@ fn add_rows(
 }
 
 // Puts a key's row among those that are there, if it is wanted.
-fn add_row(
-    tables: &mut Tables,
+fn add_row<F: Filled>(
+    tables: &mut F,
     wanted: Option<u32>,
     key: Key,
     row: TableRow,
 ) -> Result<(), OutOfMemory>
-    ensures ok { OnOk result (tables.new ≡ with_wanted wanted key row tables.old) }
+    ensures ok { OnOk result (F.tables tables.new ≡ with_wanted wanted key row (F.tables tables.old)) }
 {
     let TableRow { table, row } = row;
     if !is_wanted(wanted, table) {
         return Ok(());
     }
-    tables.apply(RowChange {
-        table,
-        key,
-        row: Some(row),
-    })?;
-    Ok(())
+    tables.put(Spot { table, key }, row)
 }
 
 // Whether the rows of a table are wanted.

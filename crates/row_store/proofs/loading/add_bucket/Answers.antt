@@ -17,9 +17,9 @@ returns-then-is_bare-clause-filled g c rest now rows has told =
     let which = number_of c.args.map in
     let are = bare_records rest now c.args.buckets.now which c.args.bucket (number_of-below c.args.map) c.requires.ready.some
     (c.is_bare.ensures.none c.if-is_bare.true) has in
-    bucket_fills c.args.style.now.tables c.args.wanted which rows now (c.args.bucket % now.root.buckets) [] are c.args.tables.now
-    c.args.tables.now
-    (fills_none which rows (Among []) c.args.tables.now (λ n among. among))
+    bucket_fills c.args.style.now.tables c.args.wanted which rows now (c.args.bucket % now.root.buckets) [] are
+    (g.F.Filled.tables c.args.tables.now) (g.F.Filled.tables c.args.tables.now)
+    (fills_none which rows (Among []) (g.F.Filled.tables c.args.tables.now) (λ n among. among))
 
 pub returns-then-is_bare-clause-spelled : goal.returns-then-is_bare-clause-spelled
 returns-then-is_bare-clause-spelled g c rest now has =
@@ -57,7 +57,8 @@ returns-in-Ok-clause-filled g c rest now rows has told =
     let bucket = c.args.bucket % now.root.buckets in
     let records = c.in-Some.records.now in
     let are = c.in-Some.ensures.found rest now (c.in_default.ensures.brings.keeps.has refl rest now has) in
-    bucket_fills c.args.style.now.tables c.args.wanted which rows now bucket records are c.args.tables.now c.add_lent-read.new.tables
+    bucket_fills c.args.style.now.tables c.args.wanted which rows now bucket records are (g.F.Filled.tables c.args.tables.now)
+    (g.F.Filled.tables c.add_lent-read.new.tables)
     (c.in-Ok.ensures.filled rows (records_told c.args.style.now.tables c.args.wanted which rows now bucket records are told))
 
 pub returns-in-Ok-clause-spelled : goal.returns-in-Ok-clause-spelled

@@ -25,8 +25,10 @@ returns-in-Ok-add_records-clause-filled g c rest now rows has told =
     let filled = c.in-Ok-add_records.ensures.filled rows
     (subst (λ (l : List (ℕ × List ℕ)). AllByRecursion (λ one. IsTold definitions c.args.wanted (number_of c.args.map) rows one.0 one.1) l)
     (sym same) each) in
-    bucket_fills definitions c.args.wanted (number_of c.args.map) rows now bucket records are c.args.tables.now c.add_records.new.tables
-    (subst (λ (l : List (ℕ × List ℕ)). Fills (number_of c.args.map) rows (Among l) c.args.tables.now c.add_records.new.tables) same filled)
+    bucket_fills definitions c.args.wanted (number_of c.args.map) rows now bucket records are (g.F.Filled.tables c.args.tables.now)
+    (g.F.Filled.tables c.add_records.new.tables)
+    (subst (λ (l : List (ℕ × List ℕ)). Fills (number_of c.args.map) rows (Among l) (g.F.Filled.tables c.args.tables.now)
+    (g.F.Filled.tables c.add_records.new.tables)) same filled)
 
 pub returns-clause-sound : goal.returns-clause-sound
 returns-clause-sound g c rest now rows has told =

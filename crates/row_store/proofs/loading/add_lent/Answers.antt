@@ -1,13 +1,13 @@
 -- A record more is rows, and fills in its own.
 use Rattle.std.proofs.Common.{◌≡◌, ◌+◌, ◌<◌, ℕ, List, length, take, arith}
 use Rattle.row_store.specs.Loading.{Among, AreRowsOf, IsTold}
-use Rattle.row_store.proofs.LoadLaws.{among_all, among_more, fills_fewer, fills_then, told_at}
-use Rattle.row_store.proofs.SpelledLaws.{all_all, all_more, one_at}
+use Rattle.row_store.proofs.LoadLaws.{among_more, fills_then, told_at}
+use Rattle.row_store.proofs.SpelledLaws.{all_more, one_at}
 use Rattle.value_bytes.specs.StoreMap.{number_of}
 use Rattle.row_store.proofs.loading.add_lent.Goals as goal
 
 pub loop-place-preserved : goal.loop-place-preserved
-loop-place-preserved c =
+loop-place-preserved g c =
     let definitions = c.args.style.now.tables in
     let records = c.args.records.now in
     let place = c.loop-place.place in
@@ -19,7 +19,8 @@ loop-place-preserved c =
       rest = c.front-number.ensures.behind;
       filled = λ rows each.
           fills_then (number_of c.args.map) rows (Among (take place records)) (λ n. one.0 ≡ n) (Among (take (place + 1) records))
-          c.args.tables.now c.loop-place.tables c.add_record.new.tables (c.loop-place.invariant.filled rows each)
+          (g.F.Filled.tables c.args.tables.now) (g.F.Filled.tables c.loop-place.tables)
+          (g.F.Filled.tables c.add_record.new.tables) (c.loop-place.invariant.filled rows each)
           (c.in_default.ensures.filled rows
           (told_at (λ (e : ℕ × List ℕ). IsTold definitions c.args.wanted (number_of c.args.map) rows e.0 e.1) records place one each within is))
           (λ n among. among_more records place one n within is among);

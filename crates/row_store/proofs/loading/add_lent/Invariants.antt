@@ -7,13 +7,13 @@ use Rattle.row_store.proofs.loading.add_lent.Given as goal
 
 -- the records so far are rows, and have filled in theirs; the bytes of the others are left
 abbrev pub invariant-loop-place : goal.invariant-loop-place
-invariant-loop-place l = record {
+invariant-loop-place g l = record {
   within : l.place ≤ length l.records;
   rest : l.rest ≡ records_bytes (drop l.place l.records);
   filled : (rows : RowsBySpot) → AllByRecursion (λ one. IsTold l.style.tables l.wanted (number_of l.map) rows one.0 one.1) l.records
-      → Fills (number_of l.map) rows (Among (take l.place l.records)) l.fn.tables l.tables;
+      → Fills (number_of l.map) rows (Among (take l.place l.records)) (g.F.Filled.tables l.fn.tables) (g.F.Filled.tables l.tables);
   spelled : AllByRecursion (λ one. AreRowsOf l.style.tables (number_of l.map) one.0 one.1) (take l.place l.records);
 }
 
 abbrev pub decreases-loop-place : goal.decreases-loop-place
-decreases-loop-place l = length l.records - l.place
+decreases-loop-place g l = length l.records - l.place

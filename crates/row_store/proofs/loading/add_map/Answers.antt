@@ -35,7 +35,8 @@ loop-bucket-preserved g c =
           × (n % now.root.buckets < bucket))
           (λ n. IsSome (map.get (now.maps (number_of c.args.map)) n) × (n % now.root.buckets ≡ bucket % now.root.buckets))
           (λ n. IsSome (map.get (now.maps (number_of c.args.map)) n) × (n % now.root.buckets < bucket + 1))
-          c.args.tables.now c.loop-bucket.tables c.add_bucket.new.tables (before.filled rest now rows had told)
+          (g.F.Filled.tables c.args.tables.now) (g.F.Filled.tables c.loop-bucket.tables)
+          (g.F.Filled.tables c.add_bucket.new.tables) (before.filled rest now rows had told)
           (done.filled rest now rows (before.has rest now had) told)
           (λ n part. elim (bucket_split n bucket now.root.buckets (omega (arith, c.loop-bucket-test.true, count)) part.1) [
             | inl less ↦ inl (part.0, less)
@@ -56,7 +57,7 @@ returns-clause-filled g c rest now rows has told =
     let own : bucket_count (chains_of c.args.buckets.now) ≡ now.root.buckets = ap (λ (r : Root). r.buckets) has.root in
     fills_fewer (number_of c.args.map) rows (λ n. IsSome (map.get (now.maps (number_of c.args.map)) n))
     (λ n. IsSome (map.get (now.maps (number_of c.args.map)) n) × (n % now.root.buckets < bucket))
-    c.args.tables.now c.loop-bucket.tables (c.loop-bucket.invariant.filled rest now rows has told)
+    (g.F.Filled.tables c.args.tables.now) (g.F.Filled.tables c.loop-bucket.tables) (c.loop-bucket.invariant.filled rest now rows has told)
     (λ n some.
     let low : n % now.root.buckets < now.root.buckets = mod-lt n (omega (arith, c.requires.ready.some, own)) in
     (some, omega (arith, low, c.loop-bucket-test.false, count)))

@@ -20,7 +20,7 @@ invariant-loop-bucket g l = record {
   filled : (rest now : Image) (rows : RowsBySpot) → Has rest now l.initial.buckets
       → AreTold l.style.tables l.wanted (number_of l.map) rows (now.maps (number_of l.map))
       → Fills (number_of l.map) rows (λ n. IsSome (map.get (now.maps (number_of l.map)) n) × (n % now.root.buckets < l.bucket))
-      l.initial.tables l.tables;
+      (g.F.Filled.tables l.initial.tables) (g.F.Filled.tables l.tables);
   spelled : (rest now : Image) → Has rest now l.initial.buckets → (number : ℕ) (bytes : List ℕ)
       → map.get (now.maps (number_of l.map)) number ≡ Some bytes → number % now.root.buckets < l.bucket
       → AreRowsOf l.style.tables (number_of l.map) number bytes;

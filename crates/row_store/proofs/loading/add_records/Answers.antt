@@ -7,7 +7,7 @@ use Rattle.value_bytes.specs.StoreMap.{number_of}
 use Rattle.row_store.proofs.loading.add_records.Goals as goal
 
 pub loop-number-preserved : goal.loop-number-preserved
-loop-number-preserved c =
+loop-number-preserved g c =
     let definitions = c.args.style.now.tables in
     let records = c.args.records.now in
     let place = c.loop-number.number-index in
@@ -19,7 +19,8 @@ loop-number-preserved c =
           let told = subst (λ (bytes : List ℕ). IsTold definitions c.args.wanted (number_of c.args.map) rows one.0 bytes)
           (sym c.as_slice.ensures.items) here in
           fills_then (number_of c.args.map) rows (Among (take place records)) (λ n. one.0 ≡ n) (Among (take (place + 1) records))
-          c.args.tables.now c.loop-number.tables c.add_record.new.tables (c.loop-number.invariant.filled rows each)
+          (g.F.Filled.tables c.args.tables.now) (g.F.Filled.tables c.loop-number.tables)
+          (g.F.Filled.tables c.add_record.new.tables) (c.loop-number.invariant.filled rows each)
           (c.in_default.ensures.filled rows told)
           (λ n among. among_more records place one n c.loop-number-test.true c.loop-number-item.is among);
       spelled = all_more (λ (e : ℕ × List ℕ). AreRowsOf definitions (number_of c.args.map) e.0 e.1) records place one
@@ -29,14 +30,15 @@ loop-number-preserved c =
     }
 
 pub returns-clause-filled : goal.returns-clause-filled
-returns-clause-filled c rows each =
+returns-clause-filled g c rows each =
     let records = c.args.records.now in
     let place = c.loop-number.number-index in
-    fills_fewer (number_of c.args.map) rows (Among records) (Among (take place records)) c.args.tables.now c.loop-number.tables
+    fills_fewer (number_of c.args.map) rows (Among records) (Among (take place records)) (g.F.Filled.tables c.args.tables.now)
+    (g.F.Filled.tables c.loop-number.tables)
     (c.loop-number.invariant.filled rows each)
     (λ n among. among_all records place n (omega (arith, c.loop-number-test.false)) among)
 
 pub returns-clause-spelled : goal.returns-clause-spelled
-returns-clause-spelled c =
+returns-clause-spelled g c =
     all_all (λ (e : ℕ × List ℕ). AreRowsOf c.args.style.now.tables (number_of c.args.map) e.0 e.1) c.args.records.now
     c.loop-number.number-index (omega (arith, c.loop-number-test.false)) c.loop-number.invariant.spelled
