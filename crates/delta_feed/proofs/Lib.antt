@@ -1,4 +1,5 @@
 pub mod Cutting
+pub mod HexWords
 pub mod RoundTrips
 pub mod Soundness
 pub mod Peeks

@@ -1,15 +1,13 @@
 -- What is written is read as the same.
 use Rattle.std.proofs.Common.{◌≡◌, ℕ, zero, suc, ◌*◌, ◌/◌, ◌%◌, ◌^◌, ◌<◌, ◌≤◌, ◌==◌, ◌&&◌, ◌||◌, Bool, true, false, List, [], ◌∷◌, length, Ok, refl, ap, ◌∙◌, arith, inl, inr}
 use Rattle.std.specs.Prelude.{codes, decimal, nat_le, slice_index}
-use Rattle.std.specs.List.{All, list_all}
+use Rattle.std.specs.List.{list_all}
 use Rattle.std.specs.Char.{is_ascii_digit}
 use Rattle.std.specs.Str.Parse.{digits_value}
 use Rattle.std.proofs.lemmas.Bool.{cases_lt, eqb-true, ne_eqb, le-leb}
 use Rattle.std.proofs.lemmas.Bool.Decides.{nat_tests}
 use Rattle.std.proofs.lemmas.Fmt.{decimal_digit, decimal_is_IsNumeral, first_decimal, length-decimal-le}
-use Rattle.std.proofs.lemmas.List.Elements.{All-weaker}
 use Rattle.std.proofs.lemmas.List.Splits.{slice_split_at, slice_split_none}
-use Rattle.std.proofs.lemmas.List.Sums.{AllPass-from_list_all}
 use Rattle.hex.specs.Hex.{IsBytes, encode_lower, encode_with, lower_digits}
 use Rattle.hex.proofs.HexLemmas.{decode_of-encode_lower, length-encode_with}
 use Rattle.osm_base.specs.declared.values.key.Kind.{Kind}
@@ -19,6 +17,7 @@ use Rattle.osm_base.specs.map.Spots.{SpotOf}
 use Rattle.opl_object.proofs.Digits.{both}
 use Rattle.opl_object.proofs.WrittenNumbers.{decimal_digits}
 use Rattle.delta_feed.proofs.Cutting.{one_at_least}
+use Rattle.delta_feed.proofs.HexWords.{HasNoSpace, clean, hex_no_space}
 use Rattle.delta_feed.specs.declared.hexes.TheConstants.{LINE_BYTES, MAX_HEX}
 use Rattle.delta_feed.specs.declared.line.FeedLine.TheVariants as lines
 use Rattle.delta_feed.specs.declared.place.Place.{Place}
@@ -35,9 +34,6 @@ use Rattle.delta_feed.specs.Words.{is_empty, is_numeral, is_space, kind_in, last
 
 -- ---- words
 
-abbrev HasNoSpace : List ℕ → Type 0
-HasNoSpace word = All (λ byte. is_space byte ≡ false) word
-
 abbrev HaveNoSpace : List (List ℕ) → Type 0
 HaveNoSpace [] = Unit {0}
 HaveNoSpace (word ∷ words) = HasNoSpace word × HaveNoSpace words
@@ -49,15 +45,8 @@ words_are word [] clean others = slice_split_none is_space word clean
 words_are word (next ∷ words) clean others =
     slice_split_at is_space word SPACE (joined (next ∷ words)) clean refl ∙ ap (λ behind. word ∷ behind) (words_are next words others.0 others.1)
 
--- no byte that passes a test is a space
-clean : (test : ℕ → Bool) (word : List ℕ) → ((byte : ℕ) → test byte ≡ true → is_space byte ≡ false) → list_all test word ≡ true → HasNoSpace word
-clean test word other all = All-weaker (λ byte. test byte ≡ true) (λ byte. is_space byte ≡ false) other word (AllPass-from_list_all test word all)
-
 digit_no_space : (byte : ℕ) → is_ascii_digit byte ≡ true → is_space byte ≡ false
 digit_no_space byte passes = grind (arith, nat_tests)
-
-hex_no_space : (byte : ℕ) → is_digit byte ≡ true → is_space byte ≡ false
-hex_no_space byte passes = grind (arith, nat_tests)
 
 letter_no_space : (kind : Kind) → HasNoSpace (kind_letter kind)
 letter_no_space kinds.Node = clean (λ byte. byte == 110) (codes "n") (λ byte e. ne_eqb _ _ (λ is. omega (arith, eqb-true _ _ e))) refl

@@ -20,7 +20,7 @@ mod words;
 mod writing;
 mod written;
 
-pub use block::{Block, Head, Rows, Stage};
+pub use block::{Block, BlockBox, Head, Rows, RowsBox, Stage};
 pub use fault::{FeedFault, FeedWhy, FeedWrite, LineRefused};
 pub use hexes::{LINE_BYTES, MAX_HEX};
 pub use laws::{blocks_are_read_back, lines_are_read_back, one_outcome};

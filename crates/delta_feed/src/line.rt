@@ -7,7 +7,7 @@ ghost use Rattle.delta_feed.specs.Sound.{IsFitLine};
 ghost use Rattle.delta_feed.specs.Why.{Gives};
 ghost use Rattle.delta_feed.specs.Words.{words_of};
 
-use crate::hexes::hex_in;
+use crate::hexes::{hex_in, is_hex};
 use crate::place::may_stand;
 use crate::words::{LAST_VERSION, TABLES, cut, kind_in, last_word, next_word, number_in};
 use crate::{FeedWhy, LineRefused, Place, Verb};
@@ -125,11 +125,15 @@ fn version_in(words: &[u8]) -> Result<u64, FeedWhy>
 }
 
 /// The bytes that the one word that is left spells.
+#[tactic(auto, unfolding(crate::specs::Hexes::hex_in))]
 fn bytes_in(alloc: Global, words: &[u8]) -> Result<Bytes, LineRefused>
     ensures bytes { Gives result (bytes_by (words_of words.now)) }
 {
-    let digits = last_word(words)?;
-    hex_in(alloc, digits)
+    if is_hex(words) {
+        return hex_in(alloc, words);
+    }
+    last_word(words)?;
+    Err(LineRefused::Bad(FeedWhy::Hex))
 }
 
 /// The spot of a row, by its three words.
@@ -146,7 +150,7 @@ fn spot_in(table: &[u8], letter: &[u8], id: &[u8]) -> Result<Spot, FeedWhy>
 }
 
 /// A row that is set.
-#[tactic(auto, unfolding(crate::specs::Line::set_by))]
+#[tactic(auto, unfolding(crate::specs::Hexes::hex_in, crate::specs::Line::set_by))]
 fn set_by(alloc: Global, words: &[u8]) -> Result<FeedLine, LineRefused>
     ensures line { Gives result (set_by (words_of words.now)) }
     ensures fits { IfOk result IsFitLine }
@@ -155,9 +159,13 @@ fn set_by(alloc: Global, words: &[u8]) -> Result<FeedLine, LineRefused>
     let (table, rest) = next_word(words)?;
     let (letter, rest) = next_word(rest)?;
     let (id, rest) = next_word(rest)?;
-    let digits = last_word(rest)?;
+    if !is_hex(rest) {
+        last_word(rest)?;
+        spot_in(table, letter, id)?;
+        return Err(LineRefused::Bad(FeedWhy::Hex));
+    }
     let spot = spot_in(table, letter, id)?;
-    let bytes = hex_in(alloc, digits)?;
+    let bytes = hex_in(alloc, rest)?;
     Ok(FeedLine::Set(spot, bytes))
 }
 

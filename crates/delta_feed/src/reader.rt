@@ -76,7 +76,7 @@ impl FeedReader {
         loop {
             match self.turn(alloc, inputs, base, stage) {
                 Ok(Some(Turn::On(next))) => stage = next,
-                Ok(Some(Turn::Whole(block))) => return Ok(Some(block)),
+                Ok(Some(Turn::Whole(block))) => return Ok(Some(block.into_block())),
                 Ok(_) => return Ok(None),
                 Err(fault) => return Err(fault),
             }

@@ -1,7 +1,7 @@
 //! The rows of tables, as they are written.
 ghost use Rattle.std.specs.Prelude.{◌≡◌, ◌++◌, IfOk, OnOk};
 ghost use Rattle.osm_base.specs.map.SpotTree.{rows_in};
-ghost use Rattle.delta_feed.specs.Text.{entry_lines, rows_at, text_of};
+ghost use Rattle.delta_feed.specs.Text.{entry_lines, rows_at, table_entries, text_of};
 ghost use Rattle.delta_feed.specs.Writing.{lent_entries};
 
 use crate::written::push_row;
@@ -30,7 +30,7 @@ fn tree_entries(
     Ok(entries)
 }
 
-/// Appends rows, one behind another.
+/// Appends rows that are lent, one behind another.
 pub(crate) fn push_entries(
     alloc: Global,
     out: &mut Vec<u8>,
@@ -40,6 +40,20 @@ pub(crate) fn push_entries(
 {
     for (spot, row) in entries {
         push_row(alloc, out, **spot, Some(*row))?;
+    }
+    Ok(())
+}
+
+/// Appends rows, one behind another.
+pub(crate) fn push_own_entries(
+    alloc: Global,
+    out: &mut Vec<u8>,
+    entries: &[(Spot, Row)],
+) -> Result<(), OutOfMemory>
+    ensures lines { OnOk result (out.new.items ≡ out.old.items ++ text_of (entry_lines (table_entries entries.now))) }
+{
+    for (spot, row) in entries {
+        push_row(alloc, out, *spot, Some(row))?;
     }
     Ok(())
 }

@@ -3,15 +3,16 @@ ghost use Rattle.std.specs.Prelude.{◌≡◌, ◌<◌, ◌≤◌, ◌++◌, IfO
 ghost use Rattle.std.specs.Io.KnownBytes.{Appends};
 ghost use Rattle.outside.specs.Bytes.{AppendsPrefix};
 ghost use Rattle.outside.specs.Causes.{HasCause};
-ghost use Rattle.delta_feed.specs.Text.{ended_line, entry_lines, full_line, full_text, style_lines, text_of};
-ghost use Rattle.delta_feed.specs.Writing.{IsUnwritten, lent_entries};
+ghost use Rattle.delta_feed.specs.Text.{ended_line, entry_lines, full_line, full_text, style_lines, table_entries, text_of};
+ghost use Rattle.delta_feed.specs.Writing.{IsUnwritten};
 
 use crate::FeedWrite;
-use crate::rows::{entries_of, push_entries};
+use crate::rows::push_own_entries;
 use crate::written::{push_end, push_full, push_style};
-use osm_base::{OutOfMemory, Row, Spot, Tables};
+use osm_base::{OutOfMemory, Row, Spot};
 use outside::{Failed, Sink, put_all};
 use rayon::prelude::*;
+use row_store::SortedRows;
 use std::alloc::Global;
 use std::thread::Threads;
 
@@ -25,7 +26,7 @@ pub fn write_full_by<R: Threads + Sync, S: Sink>(
     workers: u32,
     version: u64,
     style_bytes: &[u8],
-    tables: &Tables,
+    tables: &SortedRows,
     out: &mut S,
 ) -> Result<(), FeedWrite>
     requires workers { 0 < workers }
@@ -62,13 +63,12 @@ fn full_texts<R: Threads + Sync>(
     workers: u32,
     version: u64,
     style_bytes: &[u8],
-    tables: &Tables,
+    tables: &SortedRows,
 ) -> Result<Vec<Vec<u8>>, OutOfMemory>
     requires workers { 0 < workers }
     ensures texts { IfOk result (λ texts. flat_map (λ text. text.items) texts.items ≡ full_text version style_bytes.now tables.now) }
 {
-    let entries = entries_of(alloc, tables)?;
-    let mut rows = entry_texts(rt, alloc, workers, &entries)?;
+    let mut rows = entry_texts(rt, alloc, workers, tables.rows())?;
     let mut texts = Vec::new(alloc);
     texts.push(head_text(alloc, version, style_bytes)?)?;
     texts.append(&mut rows)?;
@@ -100,13 +100,13 @@ fn entry_texts<R: Threads + Sync>(
     rt: &R,
     alloc: Global,
     workers: u32,
-    entries: &[(&Spot, &Row)],
+    entries: &[(Spot, Row)],
 ) -> Result<Vec<Vec<u8>>, OutOfMemory>
     requires workers { 0 < workers }
-    ensures texts { IfOk result (λ texts. flat_map (λ text. text.items) texts.items ≡ text_of (entry_lines (lent_entries entries.now))) }
+    ensures texts { IfOk result (λ texts. flat_map (λ text. text.items) texts.items ≡ text_of (entry_lines (table_entries entries.now))) }
 {
-    let text = |piece: &[(&Spot, &Row)]| -> Result<Vec<u8>, OutOfMemory>
-        ensures { IfOk result (λ text. text.items ≡ text_of (entry_lines (lent_entries piece.now))) }
+    let text = |piece: &[(Spot, Row)]| -> Result<Vec<u8>, OutOfMemory>
+        ensures { IfOk result (λ text. text.items ≡ text_of (entry_lines (table_entries piece.now))) }
     { entry_text(alloc, piece) };
     let size = piece_len(entries.len(), workers);
     let texts: Result<Vec<Vec<u8>>, OutOfMemory> = entries
@@ -127,10 +127,10 @@ fn piece_len(count: usize, workers: u32) -> usize
 }
 
 /// The text of a piece.
-fn entry_text(alloc: Global, piece: &[(&Spot, &Row)]) -> Result<Vec<u8>, OutOfMemory>
-    ensures text { IfOk result (λ text. text.items ≡ text_of (entry_lines (lent_entries piece.now))) }
+fn entry_text(alloc: Global, piece: &[(Spot, Row)]) -> Result<Vec<u8>, OutOfMemory>
+    ensures text { IfOk result (λ text. text.items ≡ text_of (entry_lines (table_entries piece.now))) }
 {
     let mut out = Vec::new(alloc);
-    push_entries(alloc, &mut out, piece)?;
+    push_own_entries(alloc, &mut out, piece)?;
     Ok(out)
 }

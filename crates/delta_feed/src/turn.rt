@@ -1,13 +1,13 @@
 //! What a line makes of a block of which so much was read.
 ghost use Rattle.std.specs.Prelude.{◌≡◌, ◌++◌, Some, IfOk, IfErr};
 ghost use Rattle.std.specs.Option.{option_copied};
-ghost use Rattle.delta_feed.specs.Stage.{is_next, style_for, tables_of};
+ghost use Rattle.delta_feed.specs.Stage.{is_next, no_rows, style_for, tables_of};
 ghost use Rattle.delta_feed.specs.Turn.{Ends, IsNoRow, IsRowLine, IsRowMore, IsRowOf, IsSet, IsSetOn, IsTurn, held, opened, placed, style_line, style_more, styled};
 ghost use Rattle.delta_feed.specs.Why.{Gives, IsRowFault, Shows};
 
-use crate::block::{Head, Rows, Stage};
-use crate::{Block, FeedLine, FeedWhy, LineRefused};
-use osm_base::{Bytes, Items, Row, RowChange, Spot};
+use crate::block::{BlockBox, Head, RowsBox, Stage};
+use crate::{FeedLine, FeedWhy, LineRefused};
+use osm_base::{Bytes, Items, Row, Spot};
 use row_store::read_row;
 use std::alloc::Global;
 use style_read::{Style, StyleFault, read_style};
@@ -19,7 +19,7 @@ pub enum Turn {
     /// So much of it is read now.
     On(Stage),
     /// It is read to its end.
-    Whole(Block),
+    Whole(BlockBox),
     /// A difference begins, and there is nothing that it differs from.
     NoBase,
 }
@@ -51,18 +51,29 @@ fn open(alloc: Global, base: Option<&Style>, line: FeedLine) -> Result<Turn, Lin
 {
     match line {
         FeedLine::Full(version) => Ok(Turn::On(Stage::Opened { version })),
-        FeedLine::Delta(version) => Ok(differ(alloc, base, version)),
+        FeedLine::Delta(version) => differ(alloc, base, version),
         _ => Err(LineRefused::Bad(FeedWhy::Form)),
     }
 }
 
 /// A difference begins.
-fn differ(alloc: Global, base: Option<&Style>, version: u64) -> Turn
-    ensures turn { opened (option_copied base.entry) (FeedLine.Delta version) ≡ Ok result }
+fn differ(alloc: Global, base: Option<&Style>, version: u64) -> Result<Turn, LineRefused>
+    ensures turn { Gives result (opened (option_copied base.entry) (FeedLine.Delta version)) }
 {
     match base {
-        None => Turn::NoBase,
-        Some(_) => Turn::On(Stage::Rows(Rows::new(alloc, Head::Delta { version }))),
+        None => Ok(Turn::NoBase),
+        Some(_) => rows_behind(alloc, Head::Delta { version }),
+    }
+}
+
+/// Rows come behind the first lines of a block.
+fn rows_behind(alloc: Global, head: Head) -> Result<Turn, LineRefused>
+    ensures turn { IfOk result (λ turn. turn ≡ Turn.On (Stage.Rows (no_rows head))) }
+    ensures memory { IfErr result (λ fault. fault ≡ LineRefused.OutOfMemory) }
+{
+    match RowsBox::new(alloc, head) {
+        Ok(rows) => Ok(Turn::On(Stage::Rows(rows))),
+        Err(_) => Err(LineRefused::OutOfMemory),
     }
 }
 
@@ -125,14 +136,14 @@ fn style_so_far(
         return Ok(Turn::On(Stage::Style { version, bytes }));
     }
     match read_style(alloc, bytes.as_slice()) {
-        Ok(style) => Ok(Turn::On(Stage::Rows(Rows::new(
+        Ok(style) => rows_behind(
             alloc,
             Head::Full {
                 version,
                 style_bytes: bytes,
                 style,
             },
-        )))),
+        ),
         Err(StyleFault::Bad { .. }) => Err(LineRefused::Bad(FeedWhy::Row)),
         Err(StyleFault::OutOfMemory) => Err(LineRefused::OutOfMemory),
     }
@@ -142,7 +153,7 @@ fn style_so_far(
 fn take_row(
     alloc: Global,
     base: Option<&Style>,
-    rows: Rows,
+    rows: RowsBox,
     line: FeedLine,
     goes_on: bool,
 ) -> Result<Turn, LineRefused>
@@ -151,7 +162,7 @@ fn take_row(
     match line {
         FeedLine::Set(spot, bytes) => set_row(alloc, base, rows, spot, bytes, goes_on),
         FeedLine::Del(spot) => place_row(rows, spot, None),
-        FeedLine::End => Ok(Turn::Whole(rows.block())),
+        FeedLine::End => Ok(Turn::Whole(rows.end())),
         _ => Err(LineRefused::Bad(FeedWhy::Form)),
     }
 }
@@ -160,7 +171,7 @@ fn take_row(
 fn take_more_row(
     alloc: Global,
     base: Option<&Style>,
-    rows: Rows,
+    rows: RowsBox,
     spot: Spot,
     bytes: Bytes,
     line: FeedLine,
@@ -181,7 +192,7 @@ fn take_more_row(
 fn set_row(
     alloc: Global,
     base: Option<&Style>,
-    rows: Rows,
+    rows: RowsBox,
     spot: Spot,
     bytes: Bytes,
     goes_on: bool,
@@ -198,7 +209,7 @@ fn set_row(
 fn set_row_on(
     alloc: Global,
     base: Option<&Style>,
-    rows: Rows,
+    rows: RowsBox,
     spot: Spot,
     bytes: Bytes,
     goes_on: bool,
@@ -212,10 +223,10 @@ fn set_row_on(
 }
 
 /// The first bytes of a row, where its spot comes behind the one before it.
-fn hold_row(rows: Rows, spot: Spot, bytes: Bytes) -> Result<Turn, LineRefused>
+fn hold_row(rows: RowsBox, spot: Spot, bytes: Bytes) -> Result<Turn, LineRefused>
     ensures turn { Gives result (held rows spot bytes) }
 {
-    if comes_behind(rows.last, spot) {
+    if comes_behind(rows.as_rows().last, spot) {
         Ok(Turn::On(Stage::Row { rows, spot, bytes }))
     } else {
         Err(LineRefused::Bad(FeedWhy::Order))
@@ -226,35 +237,27 @@ fn hold_row(rows: Rows, spot: Spot, bytes: Bytes) -> Result<Turn, LineRefused>
 fn end_row(
     alloc: Global,
     base: Option<&Style>,
-    rows: Rows,
+    rows: RowsBox,
     spot: Spot,
     bytes: &[u8],
 ) -> Result<Turn, LineRefused>
     ensures turn { Shows result (Ends (tables_of (style_for rows.head (option_copied base.entry))) rows spot bytes.now) }
 {
-    match row_for(alloc, base, &rows.head, spot.table, bytes) {
+    match row_for(alloc, base, &rows.as_rows().head, spot.table, bytes) {
         Ok(row) => place_row(rows, spot, Some(row)),
         Err(fault) => Err(fault),
     }
 }
 
 /// A row, or none, where its spot comes behind the one before it.
-fn place_row(mut rows: Rows, spot: Spot, row: Option<Row>) -> Result<Turn, LineRefused>
+fn place_row(mut rows: RowsBox, spot: Spot, row: Option<Row>) -> Result<Turn, LineRefused>
     ensures turn { Gives result (placed rows spot row) }
 {
-    if !comes_behind(rows.last, spot) {
+    if !comes_behind(rows.as_rows().last, spot) {
         return Err(LineRefused::Bad(FeedWhy::Order));
     }
-    let change = RowChange {
-        table: spot.table,
-        key: spot.key,
-        row,
-    };
-    match rows.changes.push(change) {
-        Ok(()) => {
-            rows.last = Some(spot);
-            Ok(Turn::On(Stage::Rows(rows)))
-        }
+    match rows.put(spot, row) {
+        Ok(()) => Ok(Turn::On(Stage::Rows(rows))),
         Err(_) => Err(LineRefused::OutOfMemory),
     }
 }

@@ -1,5 +1,4 @@
 use Rattle.std.proofs.Common.{◌≡◌, ◌∙◌, [], ◌∷◌, Ok, refl, sym, ap, arith}
-use Rattle.delta_feed.specs.Hexes.{bytes_of}
 use Rattle.delta_feed.proofs.HexSteps.{all_read, digit_at, eight_read, first_bytes, left, sixteen_behind}
 use Rattle.delta_feed.proofs.hexes.bytes_of.Goals as goal
 

@@ -1,4 +1,3 @@
-use Rattle.std.proofs.Common.{arith}
 use Rattle.delta_feed.proofs.HexSteps.{eight_written, left}
 use Rattle.delta_feed.proofs.hexes.push_hex.Goals as goal
 
