@@ -2,6 +2,7 @@ pub mod Appended
 pub mod Becoming
 pub mod Blank
 pub mod Carrying
+pub mod ChangeOrder
 pub mod ChangeReads
 pub mod Changed
 pub mod Handles

@@ -21,9 +21,9 @@ use Rattle.row_map.proofs.TableRows.{rows_known-none}
 use Rattle.object_fold.specs.Listings.{HasIds}
 use Rattle.value_bytes.specs.Maps.{HoldsMap}
 use Rattle.bucket_records.specs.Records.{BucketMap}
-use Rattle.row_store.specs.Loading.{Fills, is_wanted}
+use Rattle.row_store.specs.Loading.{AreTold, Fills, is_wanted}
 use Rattle.row_store.specs.Rows.{AreRows, rows_bytes}
-use Rattle.row_store.proofs.MapTables.{loaded_at, wanted_row}
+use Rattle.row_store.proofs.MapTables.{loaded_at, nodes_told, others_told, wanted_row}
 use Rattle.store_maps.specs.Maps.{Maps, kept_rows, rows_at, unless_empty}
 use Rattle.store_maps.specs.Stands.{HoldsRows}
 use Rattle.store_maps.proofs.KeptRows.{kept_row-tables}
@@ -32,6 +32,8 @@ use Rattle.bucket_store.specs.Image.{Image}
 use Rattle.store_check.specs.Maps.{HasSoundMapsOf}
 use Rattle.store_check.specs.Values.{IfUnknown, IsPlaced, NodeMap, ObjectMap, bare, objects_of}
 use Rattle.store_check.proofs.ObjectSets.{get_node}
+use Rattle.update_flow.specs.Stands.{IsImported}
+use Rattle.update_flow.specs.State.{Holding}
 use Rattle.update_flow.specs.Within.{wanted_of}
 use Rattle.update_flow.proofs.OneTable.{wanted_get}
 
@@ -98,3 +100,18 @@ module _ (style : StyleOf) (wanted : Option ℕ) (kept : ℕ → BucketMap) (map
       loaded_at style.tables wanted kept maps new nodes others first second spot.table spot.key.kind spot.key.id
       ∙ ap (λ (found : Option Row). if is_wanted wanted spot.table then found else None) (kept_row-tables style maps objects holds spot)
       ∙ sym (wanted_get wanted (tables style objects) spot))
+
+-- what the two maps of rows tell of an imported store
+pub told_nodes : (style : StyleOf) (wanted : Option ℕ) (image : Image) (held : Holding) → (is : IsImported held image) → held.style ≡ style
+    → AreTold style.tables wanted 6 (wanted_row wanted is.maps.maps) (image.maps 6)
+told_nodes style wanted image held is same =
+    subst (λ (s : StyleOf). AreTold s.tables wanted 6 (wanted_row wanted is.maps.maps) (image.maps 6)) same
+    (nodes_told held.style.tables wanted image.maps is.maps.maps
+    (rows_id held.style is.maps.maps held.objects is.maps.stand.rows is.ids) is.maps.kept.node_rows)
+
+pub told_others : (style : StyleOf) (wanted : Option ℕ) (image : Image) (held : Holding) → (is : IsImported held image) → held.style ≡ style
+    → AreTold style.tables wanted 7 (wanted_row wanted is.maps.maps) (image.maps 7)
+told_others style wanted image held is same =
+    subst (λ (s : StyleOf). AreTold s.tables wanted 7 (wanted_row wanted is.maps.maps) (image.maps 7)) same
+    (others_told held.style.tables wanted image.maps is.maps.maps
+    (rows_id held.style is.maps.maps held.objects is.maps.stand.rows is.ids) is.maps.kept.other_rows)

@@ -3,11 +3,14 @@ use Rattle.std.proofs.Common.{◌≡◌, ◌≢◌, ◌<◌, ◌≤◌, ◌+◌,
 use Rattle.std.proofs.Common.{sym, ap, subst, ◌∙◌, arith, eq-eqb, nat_le}
 use Rattle.std.specs.Prelude.{IfSome}
 use Rattle.std.specs.FinMap as finite
+use Rattle.std.specs.List.Sorted.{IsPermutation}
 use Rattle.std.specs.Int.{is_power_of_two}
 use Rattle.std.specs.Int.Count.{ones}
 use Rattle.std.proofs.lemmas.Bool.{ne_eqb}
 use Rattle.std.proofs.lemmas.Bool.Decides.{nat_tests}
 use Rattle.std.proofs.lemmas.List.{reverse-reverse, reverse-append}
+use Rattle.std.proofs.lemmas.List.Elements.{All-from_recursion, recursion_from_All}
+use Rattle.std.proofs.lemmas.List.Sorted.{All-permutation}
 use Rattle.outside.specs.declared.disk.Disk.{Ghosts}
 use Rattle.osm_base.specs.declared.values.key.Kind.{Kind}
 use Rattle.osm_base.specs.declared.values.key.Kind.TheVariants as kinds
@@ -35,7 +38,7 @@ use Rattle.delta_feed.specs.declared.block.Block.TheVariants as blocks
 use Rattle.update_flow.specs.Settling.{counted_to}
 use Rattle.update_flow.specs.Stands.{IsBlank, IsFollowing}
 use Rattle.update_flow.specs.State.{Following, followed, follower_buckets, taken_whole}
-use Rattle.update_flow.specs.Taking.{AllFit, HasRoom, HasTables, IsBeside, following_root, styled, versioned}
+use Rattle.update_flow.specs.Taking.{AllFit, FitsTable, HasRoom, HasTables, IsBeside, following_root, styled, versioned}
 use Rattle.update_flow.specs.declared.fields.TheConstants.{STYLE_TEXT}
 use Rattle.update_flow.proofs.SoundSteps.{blank_count}
 
@@ -86,6 +89,13 @@ pub fit_turned : (definitions : List TableDef) (changes turned : List RowChange)
 fit_turned definitions changes turned is fit =
     subst (λ (l : List RowChange). AllFit definitions l)
     (sym (ap (λ (l : List RowChange). reverse l) is ∙ reverse-reverse changes)) fit
+
+-- changes in another order fit too
+pub fit_moved : (definitions : List TableDef) (changes moved : List RowChange) → IsPermutation changes moved → AllFit definitions changes
+    → AllFit definitions moved
+fit_moved definitions changes moved is fit =
+    recursion_from_All (FitsTable definitions) moved
+    (All-permutation (FitsTable definitions) changes moved is (All-from_recursion (FitsTable definitions) changes fit))
 
 -- each row of a block is one of its table
 one_fits : (definitions : List TableDef) (table : ℕ) (row : Option Row) → IsRowIn definitions table row

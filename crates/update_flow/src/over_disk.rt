@@ -28,7 +28,7 @@ use crate::following::{take_delta, take_whole};
 use crate::importing::import;
 use crate::maps::StoreTxn;
 use crate::migrating::migrate;
-use crate::reading::load_rows;
+use crate::reading::{load_rows, load_sorted};
 use crate::style_text::load_style_bytes;
 use crate::{FlowFault, LAST_CHANGE};
 use bucket_store::{Buckets, Resting};
@@ -36,6 +36,7 @@ use geom_workers::Hands;
 use object_fold::Change;
 use osm_base::{Bytes, Delta, Limits, RowChanges, Tables};
 use outside::{Disk, Gate};
+use row_store::SortedRows;
 use std::alloc::Global;
 use std::thread::Threads;
 use style_read::Style;
@@ -152,6 +153,30 @@ pub(crate) fn rows_on<D: Disk>(
 {
     let mut buckets = Buckets::on(alloc, disk, limits, store);
     let rows = load_rows(alloc, &mut buckets, style, wanted);
+    let _disk = buckets.hand_back(kept);
+    rows
+}
+
+/// The rows of all tables of a store with this style, in order.
+pub(crate) fn sorted_on<D: Disk>(
+    alloc: Global,
+    disk: &mut D,
+    limits: &Limits,
+    store: Resting,
+    kept: &mut Option<Resting>,
+    style: &Style,
+) -> Result<SortedRows, FlowFault>
+    ensures looks { (held : Holding) → Fits store (D.view disk.old) → HoldsState (imported held) (D.view disk.old) → held.style ≡ style.now
+        → LooksOn (imported held) (result_err result) (D.view disk.old) (D.view disk.new) kept.new }
+    ensures tables { IfOk result (λ found. (held : Holding) → Fits store (D.view disk.old) → HoldsState (imported held) (D.view disk.old)
+        → held.style ≡ style.now → found ≡ tables held.style held.objects) }
+    ensures sound { (held : Holding) → Fits store (D.view disk.old) → HoldsSound (imported held) (D.view disk.old) → held.style ≡ style.now
+        → LooksSoundOn (imported held) (result_err result) (D.view disk.new) kept.new }
+    ensures stays { Stays (D.view disk.old) (D.view disk.new) }
+    ensures ends { EndsOn None (result_err result) (D.view disk.old) (D.view disk.new) kept.new }
+{
+    let mut buckets = Buckets::on(alloc, disk, limits, store);
+    let rows = load_sorted(alloc, &mut buckets, style);
     let _disk = buckets.hand_back(kept);
     rows
 }

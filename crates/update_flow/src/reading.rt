@@ -16,7 +16,7 @@ use bucket_store::Buckets;
 use osm_base::Tables;
 use outside::Disk;
 use page_journal::StoreFault;
-use row_store::load;
+use row_store::{SortedRows, load, load_sorted as load_in_order};
 use std::alloc::Global;
 use style_read::Style;
 
@@ -46,6 +46,30 @@ pub(crate) fn load_rows<D: Disk>(
     let mut tables = Tables::new(alloc);
     match load(alloc, buckets, style, wanted, &mut tables) {
         Ok(()) => Ok(tables),
+        Err(fault) => Err(store_fault(fault)),
+    }
+}
+
+/// The rows of all tables of a store with this style, in the order of their spots. `BadStore` comes as from `load_rows`.
+pub(crate) fn load_sorted<D: Disk>(
+    alloc: Global,
+    buckets: &mut Buckets<'_, D>,
+    style: &Style,
+) -> Result<SortedRows, FlowFault>
+    requires ready { IsGoing buckets.old }
+    ensures tables { IfOk result (λ found. (rest now : Image) (held : Holding) → Has rest now buckets.old → IsImported held now → held.style ≡ style.now
+        → found ≡ tables held.style held.objects) }
+    ensures sound { (rest now : Image) (held : Holding) → Has rest now buckets.old → IsImported held now → held.style ≡ style.now
+        → IsSound (result_err result) }
+    ensures trusted { (rest now : Image) (held : Holding) → Has rest now buckets.old → IsSoundImport held now → held.style ≡ style.now
+        → IsSound (result_err result) }
+    ensures runs { Runs buckets.old buckets.new (result_err result) }
+{
+    if buckets.root().buckets == 0 {
+        return Err(FlowFault::Store(StoreFault::BadStore { page: 1 }));
+    }
+    match load_in_order(alloc, buckets, style, None) {
+        Ok(rows) => Ok(rows),
         Err(fault) => Err(store_fault(fault)),
     }
 }

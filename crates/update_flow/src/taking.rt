@@ -1,5 +1,6 @@
 //! Rows that a block tells are put into the store of a follower, within its buckets.
-ghost use Rattle.std.specs.Prelude.{◌≡◌, ◌≤◌, false, OnOk};
+ghost use Rattle.std.specs.Prelude.{◌≡◌, ◌≤◌, false, IfOk, OnOk};
+ghost use Rattle.std.specs.List.Sorted.{IsPermutation};
 ghost use Rattle.std.specs.Result.{result_err};
 ghost use Rattle.osm_base.specs.map.Spots.{TableMap, changed, changed_all};
 ghost use Rattle.bucket_store.specs.Buckets.{bucket_count};
@@ -12,13 +13,13 @@ ghost use Rattle.update_flow.specs.Within.{IsGoing, IsSound, Runs};
 use crate::FlowFault;
 use crate::fault::store_fault;
 use bucket_store::Buckets;
-use osm_base::{RowChange, RowChanges, Spot};
+use osm_base::{OutOfMemory, RowChange, RowChanges, Spot};
 use outside::Disk;
 use row_store::set_row;
 use std::alloc::Global;
 use style_read::Style;
 
-/// What changes say of rows is so from now on, one after another. The list shrinks as the buckets grow.
+/// What changes say of rows is so from now on, by rising keys. The list shrinks as the buckets grow.
 pub(crate) fn take_rows<D: Disk>(
     alloc: Global,
     buckets: &mut Buckets<'_, D>,
@@ -35,7 +36,9 @@ pub(crate) fn take_rows<D: Disk>(
         → IsSound (result_err result) }
     ensures runs { Runs buckets.old buckets.new (result_err result) }
 {
-    let mut changes = changes.into_vec();
+    let Ok(mut changes) = by_key(changes) else {
+        return Err(FlowFault::OutOfMemory);
+    };
     changes.reverse();
     while let Some(change) = changes.pop() {
         if let Err(fault) = take_row(alloc, buckets, style, change) {
@@ -43,6 +46,17 @@ pub(crate) fn take_rows<D: Disk>(
         }
     }
     Ok(())
+}
+
+// A record whose key is above all that its bucket has is put behind them.
+/// The changes by rising keys; those of one key stay in their order.
+fn by_key(changes: RowChanges) -> Result<Vec<RowChange>, OutOfMemory>
+    ensures moved { IfOk result (λ sorted. IsPermutation changes sorted.items) }
+    ensures same { IfOk result (λ sorted. (tables : TableMap) → changed_all tables sorted.items ≡ changed_all tables changes) }
+{
+    let mut changes = changes.into_vec();
+    changes.sort_by_key(|change: &RowChange| change.key)?;
+    Ok(changes)
 }
 
 /// What a change says of a row is so from now on.

@@ -10,10 +10,11 @@ ghost use Rattle.update_flow.specs.State.{Holding, State, imported};
 
 use super::Updater;
 use crate::FlowFault;
-use crate::over_disk::{due_on, rows_on, style_bytes_on};
+use crate::over_disk::{due_on, rows_on, sorted_on, style_bytes_on};
 use osm_base::{Bytes, Tables};
 use outside::Disk;
 use page_journal::StoreFault;
+use row_store::SortedRows;
 use tile_cover::TileRuns;
 
 impl<D: Disk> Updater<'_, D> {
@@ -67,6 +68,34 @@ impl<D: Disk> Updater<'_, D> {
             &mut self.store,
             style,
             None,
+        )
+    }
+
+    /// The rows of all tables, those of a fresh import, in the order of their spots.
+    pub fn load_sorted(&mut self) -> Result<SortedRows, FlowFault>
+        ensures looks { (state : State) → IsOpen state (handle_of self.old) → Looks state (result_err result) (handle_of self.old) (handle_of self.new) }
+        ensures tables { IfOk result (λ found. (held : Holding) → IsOpen (imported held) (handle_of self.old) → found ≡ tables held.style held.objects) }
+        ensures sound { (state : State) → IsOpenSound state (handle_of self.old) → LooksSound state (result_err result) (handle_of self.new) }
+
+        // Whatever the disk holds.
+        ensures stays { StaysOpen None self.old self.new result }
+    {
+        if self.old() {
+            return Err(FlowFault::OldFormat);
+        }
+        let Some(style) = &self.style else {
+            return Err(FlowFault::NotImported);
+        };
+        let Some(store) = self.store.take() else {
+            return Err(FlowFault::Store(StoreFault::Broken));
+        };
+        sorted_on(
+            self.alloc,
+            self.disk,
+            &self.limits,
+            store,
+            &mut self.store,
+            style,
         )
     }
 

@@ -1,39 +1,23 @@
 -- The rows of nodes and those of ways and relations are all rows.
-use Rattle.std.proofs.Common.{◌≡◌, ◌∙◌, ℕ, Option, Some, sym, ap, subst, arith}
+use Rattle.std.proofs.Common.{◌≡◌, ◌∙◌, ℕ, Some, sym, ap, subst, arith}
 use Rattle.std.specs.FinMap as map
 use Rattle.std.specs.Option.{IsSome}
 use Rattle.osm_base.specs.map.Spots.{TableMap}
 use Rattle.row_store.specs.Loading.{AreTold, Fills, RowsBySpot}
 use Rattle.style_read.specs.Style.{StyleOf}
 use Rattle.bucket_store.specs.Image.{Image}
-use Rattle.update_flow.specs.Stands.{IsImported}
-use Rattle.update_flow.specs.State.{Holding}
 use Rattle.update_flow.specs.Within.{IsSound, Runs}
 use Rattle.update_flow.specs.declared.fault.FlowFault.{FlowFault}
 use Rattle.osm_base.proofs.SpotOrder.{spot_cmp_total, spot_cmp-IsAntisymmetric}
 use Rattle.row_store.proofs.MapTables.{nodes_told, others_told, wanted_row}
 use Rattle.row_store.proofs.TableLaws.{row_maps, table_nodes_told, table_others_told, tables_loaded}
 use Rattle.update_flow.specs.Within.{wanted_of}
-use Rattle.update_flow.proofs.Loading.{all_loaded, rows_id, sound_id}
+use Rattle.update_flow.proofs.Loading.{all_loaded, sound_id, told_nodes, told_others}
 use Rattle.update_flow.proofs.OneTable.{wanted_get}
 use Rattle.update_flow.proofs.Openings.{sound_store}
 use Rattle.chain_store.specs.declared.root.Root.{Root}
 use Rattle.update_flow.proofs.Running.{runs_done, runs_refused, runs_unfit}
 use Rattle.update_flow.proofs.reading.load_rows.Goals as goal
-
-told_nodes : (style : StyleOf) (wanted : Option ℕ) (image : Image) (held : Holding) → (is : IsImported held image) → held.style ≡ style
-    → AreTold style.tables wanted 6 (wanted_row wanted is.maps.maps) (image.maps 6)
-told_nodes style wanted image held is same =
-    subst (λ (s : StyleOf). AreTold s.tables wanted 6 (wanted_row wanted is.maps.maps) (image.maps 6)) same
-    (nodes_told held.style.tables wanted image.maps is.maps.maps
-    (rows_id held.style is.maps.maps held.objects is.maps.stand.rows is.ids) is.maps.kept.node_rows)
-
-told_others : (style : StyleOf) (wanted : Option ℕ) (image : Image) (held : Holding) → (is : IsImported held image) → held.style ≡ style
-    → AreTold style.tables wanted 7 (wanted_row wanted is.maps.maps) (image.maps 7)
-told_others style wanted image held is same =
-    subst (λ (s : StyleOf). AreTold s.tables wanted 7 (wanted_row wanted is.maps.maps) (image.maps 7)) same
-    (others_told held.style.tables wanted image.maps is.maps.maps
-    (rows_id held.style is.maps.maps held.objects is.maps.stand.rows is.ids) is.maps.kept.other_rows)
 
 filled : (which : ℕ) (rows : RowsBySpot) (image : Image) (old new : TableMap) → old ≡ map.empty
     → Fills which rows (λ n. IsSome (map.get (image.maps which) n)) old new

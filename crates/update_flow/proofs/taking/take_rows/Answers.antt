@@ -5,13 +5,14 @@ use Rattle.osm_base.specs.map.Spots.{TableMap, changed, changed_all}
 use Rattle.bucket_store.proofs.Holding.{looks_same}
 use Rattle.update_flow.specs.Taking.{AllFit, HasTables}
 use Rattle.update_flow.proofs.Running.{runs_then}
-use Rattle.update_flow.proofs.Takings.{all_turned, beside_same, fit_turned, last_first, tables_then}
+use Rattle.update_flow.proofs.Takings.{all_turned, beside_same, fit_moved, fit_turned, last_first, tables_then}
 use Rattle.update_flow.proofs.taking.take_rows.Goals as goal
 
 pub loop-change-init : goal.loop-change-init
 loop-change-init g c =
+    let sorted = c.in-Ok.changes.items in
     let turned = c.reverse.new.self.items in
-    let is : turned ≡ reverse c.args.changes = c.reverse.ensures.items ∙ ap (λ (l : List RowChange). reverse l) c.into_vec-changes.ensures.items in
+    let is : turned ≡ reverse sorted = c.reverse.ensures.items in
     record {
       going = c.requires.ready.going;
       runs = record {
@@ -21,11 +22,12 @@ loop-change-init g c =
         failed = λ none. absurd (cc (none));
       };
       count = refl;
-      fit = fit_turned c.args.style.now.tables c.args.changes turned is c.requires.fit;
+      fit = fit_turned c.args.style.now.tables sorted turned is
+          (fit_moved c.args.style.now.tables c.args.changes sorted c.in-Ok.ensures.moved c.requires.fit);
       taken = λ rest now tables has holds. (
         tables,
         record { later = now; has = has; holds = holds; beside = beside_same now },
-        all_turned c.args.changes turned tables is,
+        all_turned sorted turned tables is ∙ c.in-Ok.ensures.same tables,
       );
     }
 
@@ -76,7 +78,7 @@ pub returns-clause-taken : goal.returns-clause-taken
 returns-clause-taken g c rest now tables has holds =
     let one = c.loop-change.invariant.taken rest now tables has holds in
     let front : c.pop.new.self.items ≡ [] =
-    c.in_default.ensures.rest ∙ ap (λ (n : ℕ). take (n - 1) c.loop-change.changes.items) c.in_default.ensures.cases.0 in
-    let none : c.loop-change.changes.items ≡ [] = c.in_default.ensures.items ∙ ap (λ (l : List RowChange). l ++ []) front in
+    c.in_default-pop.ensures.rest ∙ ap (λ (n : ℕ). take (n - 1) c.loop-change.changes.items) c.in_default-pop.ensures.cases.0 in
+    let none : c.loop-change.changes.items ≡ [] = c.in_default-pop.ensures.items ∙ ap (λ (l : List RowChange). l ++ []) front in
     subst (λ (t : TableMap). HasTables c.args.style.now.tables t rest now c.loop-change.buckets)
     (ap (λ (l : List RowChange). changed_all one.0 (reverse l)) (sym none) ∙ one.2) one.1

@@ -1,0 +1,66 @@
+-- What the buckets say is said of the disk under them.
+use Rattle.std.proofs.Common.{◌≡◌, None, rules, sym}
+use Rattle.std.specs.Result.{result_err}
+use Rattle.page_journal.specs.Journal.{disk_of as disk_under}
+use Rattle.chain_store.specs.Chains.{journal_of}
+use Rattle.bucket_store.specs.Transaction.{chains_of}
+use Rattle.bucket_store.proofs.Holding.{rests_under}
+use Rattle.update_flow.specs.State.{imported}
+use Rattle.update_flow.proofs.Carrying.{ends_on, looks_on, ok_then}
+use Rattle.update_flow.proofs.Looking.{looked_stays}
+use Rattle.update_flow.proofs.Openings.{sound_answer}
+use Rattle.update_flow.proofs.SoundCarried.{looked_on}
+use Rattle.update_flow.proofs.Turning.{looks_at, runs_ended}
+use Rattle.update_flow.proofs.over_disk.sorted_on.Goals as goal
+
+pub returns-clause-looks : goal.returns-clause-looks
+returns-clause-looks g c =
+    let last : disk_under (journal_of (chains_of c.load_sorted-rows.new.buckets)) ≡ c.disk-1.given.0 = search rules in
+    λ held fits holds same.
+    let fault = result_err c.load_sorted-rows.result in
+    let old = c.on-buckets.result in
+    let new = c.load_sorted-rows.new.buckets in
+    let has = c.on-buckets.ensures.has holds.image fits holds.holds in
+    looks_on fault old new c.hand_back-disk.new.kept (c.hand_back-disk.ensures.whole, c.hand_back-disk.ensures.fits)
+    (runs_ended {call = None} fault old new c.load_sorted-rows.ensures.runs)
+    (imported held) (looks_at held fault holds.image old new
+    (rests_under holds.image holds.image old has) holds.means c.load_sorted-rows.ensures.runs.looks
+    (sound_answer fault (c.load_sorted-rows.ensures.sound holds.image holds.image held has holds.means same))) c.args.disk.now
+    c.disk-1.given.0 c.on-buckets.ensures.disk last
+
+pub returns-clause-tables : goal.returns-clause-tables
+returns-clause-tables g c =
+    ok_then c.load_sorted-rows.result _ _
+    (λ found told held fits holds same. told holds.image holds.image held
+    (c.on-buckets.ensures.has holds.image fits holds.holds) holds.means same)
+    c.load_sorted-rows.ensures.tables
+
+pub returns-clause-ends : goal.returns-clause-ends
+returns-clause-ends g c =
+    search (
+      rules,
+      ends_on (result_err c.load_sorted-rows.result) c.on-buckets.result c.load_sorted-rows.new.buckets c.hand_back-disk.new.kept
+          (c.hand_back-disk.ensures.whole, c.hand_back-disk.ensures.fits)
+          (runs_ended {call = None} (result_err c.load_sorted-rows.result) c.on-buckets.result c.load_sorted-rows.new.buckets
+          c.load_sorted-rows.ensures.runs),
+    )
+
+pub returns-clause-stays : goal.returns-clause-stays
+returns-clause-stays g c =
+    let last : disk_under (journal_of (chains_of c.load_sorted-rows.new.buckets)) ≡ c.disk-1.given.0 = search rules in
+    looked_stays c.on-buckets.result c.load_sorted-rows.new.buckets c.args.disk.now c.disk-1.given.0 c.on-buckets.ensures.disk
+    (sym last) c.load_sorted-rows.ensures.runs.looks
+
+-- a sound store
+pub returns-clause-sound : goal.returns-clause-sound
+returns-clause-sound g c =
+    let last : disk_under (journal_of (chains_of c.load_sorted-rows.new.buckets)) ≡ c.disk-1.given.0 = search rules in
+    λ held fits holds same.
+    let fault = result_err c.load_sorted-rows.result in
+    let old = c.on-buckets.result in
+    let new = c.load_sorted-rows.new.buckets in
+    let has = c.on-buckets.ensures.has holds.image fits holds.holds in
+    looked_on fault old new c.hand_back-disk.new.kept (c.hand_back-disk.ensures.whole, c.hand_back-disk.ensures.fits)
+    (runs_ended {call = None} fault old new c.load_sorted-rows.ensures.runs)
+    (imported held) holds.image (rests_under holds.image holds.image old has) holds.is c.load_sorted-rows.ensures.runs.looks
+    (sound_answer fault (c.load_sorted-rows.ensures.trusted holds.image holds.image held has holds.is same)) c.disk-1.given.0 last
