@@ -52,7 +52,7 @@ fn feed_tables<R: Threads + Sync, D: Disk, S: Sink, G: Gate>(
         Ok(style) => style,
         Err(fault) => return Err(Fault::in_flow(fault)),
     };
-    let tables = match store.load_tables() {
+    let tables = match store.load_sorted() {
         Ok(tables) => tables,
         Err(fault) => return Err(Fault::in_flow(fault)),
     };

@@ -13,51 +13,51 @@ returns-in-Err-clause-feeds g c = rw c.in_flow.ensures.fault (λ next files old 
     full_unlooked start done held next old files (g.S.Sink.view c.args.out.now) (handle_of c.args.store.now)
     (handle_of c.style_bytes.new.self) head c.in-Err.fault c.in-Err.ensures.looks (refused_so c.in-Err.ensures.stays))
 
-pub returns-in-Err-load_tables-clause-feeds : goal.returns-in-Err-load_tables-clause-feeds
-returns-in-Err-load_tables-clause-feeds g c = rw c.in_flow-in-Err-load_tables.ensures.fault (λ next files old start done held head.
+pub returns-in-Err-load_sorted-clause-feeds : goal.returns-in-Err-load_sorted-clause-feeds
+returns-in-Err-load_sorted-clause-feeds g c = rw c.in_flow-in-Err-load_sorted.ensures.fault (λ next files old start done held head.
     let output = g.S.Sink.view c.args.out.now in
     let read = handle_of c.style_bytes.new.self in
     let sure = look_done start done held next old files (handle_of c.args.store.now) read output head c.in-Ok.ensures.looks
     (c.in-Ok.ensures.stays.still tt) c.in-Ok.ensures.stays.whole c.style_bytes.ensures.stays.over.same_limits c.in-Ok.ensures.stays.cause in
-    full_unlooked start done held next old files output read (handle_of c.load_tables.new.self) sure c.in-Err-load_tables.fault
-    c.in-Err-load_tables.ensures.looks (refused_so c.in-Err-load_tables.ensures.stays))
+    full_unlooked start done held next old files output read (handle_of c.load_sorted.new.self) sure c.in-Err-load_sorted.fault
+    c.in-Err-load_sorted.ensures.looks (refused_so c.in-Err-load_sorted.ensures.stays))
 
 pub returns-in-Ok-write_full_by-clause-feeds : goal.returns-in-Ok-write_full_by-clause-feeds
 returns-in-Ok-write_full_by-clause-feeds g c = λ next files old start done held head.
     let output = g.S.Sink.view c.args.out.now in
     let read = handle_of c.style_bytes.new.self in
-    let loaded = handle_of c.load_tables.new.self in
+    let loaded = handle_of c.load_sorted.new.self in
     let first = look_done start done held next old files (handle_of c.args.store.now) read output head c.in-Ok.ensures.looks
     (c.in-Ok.ensures.stays.still tt) c.in-Ok.ensures.stays.whole c.style_bytes.ensures.stays.over.same_limits c.in-Ok.ensures.stays.cause in
-    let second = look_done start done held next old files read loaded output first c.in-Ok-load_tables.ensures.looks
-    (c.in-Ok-load_tables.ensures.stays.still tt) c.in-Ok-load_tables.ensures.stays.whole c.load_tables.ensures.stays.over.same_limits
-    c.in-Ok-load_tables.ensures.stays.cause in
+    let second = look_done start done held next old files read loaded output first c.in-Ok-load_sorted.ensures.looks
+    (c.in-Ok-load_sorted.ensures.stays.still tt) c.in-Ok-load_sorted.ensures.stays.whole c.load_sorted.ensures.stays.over.same_limits
+    c.in-Ok-load_sorted.ensures.stays.cause in
     full_told start done held next old files output loaded second
-    (full_text c.changes.result c.as_slice.result.now c.in-Ok-load_tables.tables)
-    (full_is_block c.changes.result c.as_slice.result.now c.in-Ok-load_tables.tables)
+    (full_text c.changes.result c.as_slice.result.now c.in-Ok-load_sorted.tables)
+    (full_is_block c.changes.result c.as_slice.result.now c.in-Ok-load_sorted.tables)
     (full_same start done held next old files output (handle_of c.args.store.now) read loaded head first second
-    c.changes.result c.as_slice.result.now c.in-Ok-load_tables.tables c.changes.ensures.number
+    c.changes.result c.as_slice.result.now c.in-Ok-load_sorted.tables c.changes.ensures.number
     (λ opened. c.as_slice.ensures.items ∙ c.in-Ok.ensures.bytes held opened)
-    (c.in-Ok-load_tables.ensures.tables held))
+    (c.in-Ok-load_sorted.ensures.tables held))
     (g.S.Sink.view c.write_full_by.new.out) c.write_full_by.ensures.later c.in-Ok-write_full_by.ensures.ok
 
 pub returns-clause-feeds : goal.returns-clause-feeds
 returns-clause-feeds g c = rw c.in_feed.ensures.fault (λ next files old start done held head.
     let output = g.S.Sink.view c.args.out.now in
     let read = handle_of c.style_bytes.new.self in
-    let loaded = handle_of c.load_tables.new.self in
+    let loaded = handle_of c.load_sorted.new.self in
     let first = look_done start done held next old files (handle_of c.args.store.now) read output head c.in-Ok.ensures.looks
     (c.in-Ok.ensures.stays.still tt) c.in-Ok.ensures.stays.whole c.style_bytes.ensures.stays.over.same_limits c.in-Ok.ensures.stays.cause in
-    let second = look_done start done held next old files read loaded output first c.in-Ok-load_tables.ensures.looks
-    (c.in-Ok-load_tables.ensures.stays.still tt) c.in-Ok-load_tables.ensures.stays.whole c.load_tables.ensures.stays.over.same_limits
-    c.in-Ok-load_tables.ensures.stays.cause in
+    let second = look_done start done held next old files read loaded output first c.in-Ok-load_sorted.ensures.looks
+    (c.in-Ok-load_sorted.ensures.stays.still tt) c.in-Ok-load_sorted.ensures.stays.whole c.load_sorted.ensures.stays.over.same_limits
+    c.in-Ok-load_sorted.ensures.stays.cause in
     full_untold start done held next old files output loaded second
-    (full_text c.changes.result c.as_slice.result.now c.in-Ok-load_tables.tables)
-    (full_is_block c.changes.result c.as_slice.result.now c.in-Ok-load_tables.tables)
+    (full_text c.changes.result c.as_slice.result.now c.in-Ok-load_sorted.tables)
+    (full_is_block c.changes.result c.as_slice.result.now c.in-Ok-load_sorted.tables)
     (full_same start done held next old files output (handle_of c.args.store.now) read loaded head first second
-    c.changes.result c.as_slice.result.now c.in-Ok-load_tables.tables c.changes.ensures.number
+    c.changes.result c.as_slice.result.now c.in-Ok-load_sorted.tables c.changes.ensures.number
     (λ opened. c.as_slice.ensures.items ∙ c.in-Ok.ensures.bytes held opened)
-    (c.in-Ok-load_tables.ensures.tables held))
+    (c.in-Ok-load_sorted.ensures.tables held))
     (g.S.Sink.view c.write_full_by.new.out) c.write_full_by.ensures.later c.in-Err-write_full_by.fault c.in-Err-write_full_by.ensures.err)
 
 pub returns-in-Err-clause-sound : goal.returns-in-Err-clause-sound
@@ -65,17 +65,17 @@ returns-in-Err-clause-sound g c = rw c.in_flow.ensures.fault (λ opened.
     look_stops c.in-Err.fault (handle_of c.args.store.now) opened (handle_of c.style_bytes.new.self)
     (handle_of c.style_bytes.new.self) c.in-Err.ensures.sound)
 
-pub returns-in-Err-load_tables-clause-sound : goal.returns-in-Err-load_tables-clause-sound
-returns-in-Err-load_tables-clause-sound g c = rw c.in_flow-in-Err-load_tables.ensures.fault (λ opened.
-    look_stops c.in-Err-load_tables.fault (handle_of c.style_bytes.new.self)
+pub returns-in-Err-load_sorted-clause-sound : goal.returns-in-Err-load_sorted-clause-sound
+returns-in-Err-load_sorted-clause-sound g c = rw c.in_flow-in-Err-load_sorted.ensures.fault (λ opened.
+    look_stops c.in-Err-load_sorted.fault (handle_of c.style_bytes.new.self)
     (look_goes (handle_of c.args.store.now) (handle_of c.style_bytes.new.self) c.in-Ok.ensures.sound opened)
-    (handle_of c.load_tables.new.self) (handle_of c.load_tables.new.self) c.in-Err-load_tables.ensures.sound)
+    (handle_of c.load_sorted.new.self) (handle_of c.load_sorted.new.self) c.in-Err-load_sorted.ensures.sound)
 
 pub returns-in-Ok-write_full_by-clause-sound : goal.returns-in-Ok-write_full_by-clause-sound
 returns-in-Ok-write_full_by-clause-sound g c = λ opened.
-    ends_well (handle_of c.load_tables.new.self)
-    (look_goes (handle_of c.style_bytes.new.self) (handle_of c.load_tables.new.self) c.in-Ok-load_tables.ensures.sound
+    ends_well (handle_of c.load_sorted.new.self)
+    (look_goes (handle_of c.style_bytes.new.self) (handle_of c.load_sorted.new.self) c.in-Ok-load_sorted.ensures.sound
     (look_goes (handle_of c.args.store.now) (handle_of c.style_bytes.new.self) c.in-Ok.ensures.sound opened))
 
 pub returns-clause-sound : goal.returns-clause-sound
-returns-clause-sound g c = rw c.in_feed.ensures.fault (λ opened. block_ends c.in-Err-write_full_by.fault (handle_of c.load_tables.new.self))
+returns-clause-sound g c = rw c.in_feed.ensures.fault (λ opened. block_ends c.in-Err-write_full_by.fault (handle_of c.load_sorted.new.self))
