@@ -40,6 +40,7 @@ fn done_by(updater: &mut Updater<'_, MemDisk>, call: &str) -> Option<Result<(), 
         "clear_due" => Some(updater.clear_due()),
         "due" => Some(updater.due().map(|_| ())),
         "load_tables" => Some(updater.load_tables().map(|_| ())),
+        "load_sorted" => Some(updater.load_sorted().map(|_| ())),
         "load_table" => Some(updater.load_table(0).map(|_| ())),
         _ => None,
     }
