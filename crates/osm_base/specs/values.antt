@@ -5,5 +5,6 @@ pub mod KeyOrder
 pub mod Line
 pub mod Place
 pub mod TagOrder
+pub mod TagRow
 pub mod TagText
 pub mod Tags

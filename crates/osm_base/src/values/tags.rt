@@ -29,11 +29,19 @@ struct Span {
     end: usize,
 }
 
+/// The texts of tags, and where each tag stands in them.
+#[derive(Drop)]
+struct TagRow {
+    text: Vec<u8>,
+    spans: Vec<Span>,
+}
+
+// Most nodes have no tag, and an entry of a file is as long as its longest form: so a row of tags stands in a place of its own.
 /// Keys with their values, each key once, by rising keys.
 #[derive(Drop)]
 pub struct Tags {
-    text: Vec<u8>,
-    spans: Vec<Span>,
+    /// `None`: no tag.
+    row: Option<Box<TagRow>>,
 }
 
 impl Model for Tags {
@@ -47,22 +55,30 @@ impl Model for Tags {
 
     ghost coded = { map.code (coded_list coded_ℕ) (coded_list coded_ℕ) };
 
-    ghost use Rattle.osm_base.specs.declared.values.tags.Span.{Span};
-    ghost use Rattle.osm_base.specs.values.TagOrder.{pairs_of, AreTags};
+    ghost use Rattle.osm_base.specs.values.TagOrder.{AreTags};
+    ghost use Rattle.osm_base.specs.values.TagRow.{text_in, spans_in, pairs_in};
 
-    ghost view = { λ tags. map.from_entries (pairs_of tags.text.items tags.spans.items) };
+    ghost view = { λ tags. map.from_entries (pairs_in tags.row) };
 
-    ghost invariant = { λ tags. AreTags tags.text.items tags.spans.items };
+    ghost invariant = { λ tags. AreTags (text_in tags.row) (spans_in tags.row) };
 }
 
 impl Tags {
     /// No tag.
-    pub fn new(alloc: Global) -> Self
+    pub fn new(_alloc: Global) -> Self
         ensures empty { result ≡ map.empty }
     {
-        Self {
-            text: Vec::new(alloc),
-            spans: Vec::new(alloc),
+        Self { row: None }
+    }
+
+    /// The texts of the tags, and where each stands in them.
+    fn parts(&self) -> (&[u8], &[Span])
+        ensures tags { AreTags result.0.now result.1.now }
+        ensures map { self.now ≡ map.from_entries (pairs_of result.0.now result.1.now) }
+    {
+        match &self.row {
+            Some(row) => (&row.text, &row.spans),
+            None => (&[], &[]),
         }
     }
 
@@ -70,21 +86,24 @@ impl Tags {
     pub fn get(&self, key: &str) -> Option<&str>
         ensures value { option_map (λ value. chars value.now) result ≡ map.get self.now (chars key.now) }
     {
-        value_of(&self.text, &self.spans, key)
+        let (text, spans) = self.parts();
+        value_of(text, spans, key)
     }
 
     /// How many tags there are.
     pub fn len(&self) -> usize
         ensures count { result ≡ map.len self.now }
     {
-        self.spans.len()
+        let (_, spans) = self.parts();
+        spans.len()
     }
 
     /// Whether there is no tag.
     pub fn is_empty(&self) -> bool
         ensures none { IsTrue result ↔ (map.len self.now ≡ 0) }
     {
-        self.spans.is_empty()
+        let (_, spans) = self.parts();
+        spans.is_empty()
     }
 
     /// The tag at this place by rising keys, as a key and its value.
@@ -92,10 +111,8 @@ impl Tags {
         requires { index < map.len self.now }
         ensures tag { slice_get (map.entries self.now) index ≡ Some (chars result.0.now, chars result.1.now) }
     {
-        (
-            key_at(&self.text, &self.spans, index),
-            value_at(&self.text, &self.spans, index),
-        )
+        let (text, spans) = self.parts();
+        (key_at(text, spans, index), value_at(text, spans, index))
     }
 }
 
@@ -180,9 +197,15 @@ fn text_of(text: &[u8], from: usize, to: usize) -> &str
 
 impl TryCopy for Tags {
     fn copy(&self, alloc: Global) -> Result<Self, OutOfMemory> {
+        let Some(row) = &self.row else {
+            return Ok(Self { row: None });
+        };
+        let row = TagRow {
+            text: Vec::from_slice(alloc, &row.text)?,
+            spans: Vec::from_slice(alloc, &row.spans)?,
+        };
         Ok(Self {
-            text: Vec::from_slice(alloc, &self.text)?,
-            spans: Vec::from_slice(alloc, &self.spans)?,
+            row: Some(Box::new(alloc, row)?),
         })
     }
 }

@@ -9,7 +9,7 @@ ghost use Rattle.osm_base.specs.values.Tags.{HasEachKeyOnce};
 ghost use Rattle.osm_base.specs.values.TagText.{key_bytes, AreSpans};
 ghost use Rattle.osm_base.specs.values.TagOrder.{pairs_of};
 
-use super::{Span, Tags, key_at};
+use super::{Span, TagRow, Tags, key_at};
 use crate::OutOfMemory;
 use std::alloc::Global;
 use std::marker::Model;
@@ -17,8 +17,8 @@ use std::marker::Model;
 /// Tags in the order of their coming. A key may stand several times.
 #[derive(Drop)]
 pub struct TagList {
-    text: Vec<u8>,
-    spans: Vec<Span>,
+    alloc: Global,
+    row: Option<Box<TagRow>>,
 }
 
 impl Model for TagList {
@@ -27,11 +27,11 @@ impl Model for TagList {
     ghost Value = { TagPairs };
 
     ghost use Rattle.osm_base.specs.values.TagText.{AreSpans};
-    ghost use Rattle.osm_base.specs.values.TagOrder.{pairs_of};
+    ghost use Rattle.osm_base.specs.values.TagRow.{text_in, spans_in, pairs_in};
 
-    ghost view = { λ tags. pairs_of tags.text.items tags.spans.items };
+    ghost view = { λ tags. pairs_in tags.row };
 
-    ghost invariant = { λ tags. AreSpans tags.text.items tags.spans.items };
+    ghost invariant = { λ tags. AreSpans (text_in tags.row) (spans_in tags.row) };
 }
 
 impl TagList {
@@ -39,9 +39,16 @@ impl TagList {
     pub fn with_room(alloc: Global, tags: usize, bytes: usize) -> Result<Self, OutOfMemory>
         ensures empty { IfOk result (λ tags. tags ≡ []) }
     {
-        Ok(Self {
+        if tags == 0 {
+            return Ok(Self { alloc, row: None });
+        }
+        let row = TagRow {
             text: Vec::with_capacity(alloc, bytes)?,
             spans: Vec::with_capacity(alloc, tags)?,
+        };
+        Ok(Self {
+            alloc,
+            row: Some(Box::new(alloc, row)?),
         })
     }
 
@@ -50,7 +57,12 @@ impl TagList {
         ensures ok { OnOk result (self.new ≡ self.old ++ (chars key.now, chars value.now) ∷ []) }
         ensures err { OnErr result (self.new ≡ self.old) }
     {
-        append(&mut self.text, &mut self.spans, key, value)
+        if let Some(row) = &mut self.row {
+            let TagRow { text, spans } = &mut **row;
+            return append(text, spans, key, value);
+        }
+        self.row = Some(row_of_one(self.alloc, key, value)?);
+        Ok(())
     }
 
     /// The same by rising keys. `None`: a key stands twice.
@@ -58,9 +70,12 @@ impl TagList {
         ensures once { IsSome result ↔ HasEachKeyOnce self }
         ensures tags { IfSome result (λ tags. tags ≡ map.from_entries self) }
     {
-        let Self { text, mut spans } = self;
-        if put_in_order(&text, &mut spans) {
-            Some(Tags { text, spans })
+        let Some(mut row) = self.row else {
+            return Some(Tags { row: None });
+        };
+        let TagRow { text, spans } = &mut *row;
+        if put_in_order(text, spans) {
+            Some(Tags { row: Some(row) })
         } else {
             None
         }
@@ -71,9 +86,11 @@ impl TagList {
         ensures rising { IsSome result ↔ T (map.is_sorted (slice_cmp nat_cmp) self) }
         ensures tags { IfSome result (λ tags. tags ≡ map.from_entries self) }
     {
-        let Self { text, spans } = self;
-        if are_rising(&text, &spans) {
-            Some(Tags { text, spans })
+        let Some(row) = self.row else {
+            return Some(Tags { row: None });
+        };
+        if are_rising(&row.text, &row.spans) {
+            Some(Tags { row: Some(row) })
         } else {
             None
         }
@@ -85,11 +102,23 @@ impl Tags {
     pub fn one(alloc: Global, key: &str, value: &str) -> Result<Self, OutOfMemory>
         ensures tag { IfOk result (λ tags. tags ≡ map.insert map.empty (chars key.now) (chars value.now)) }
     {
-        let mut text = Vec::new(alloc);
-        let mut spans = Vec::new(alloc);
-        append(&mut text, &mut spans, key, value)?;
-        Ok(Self { text, spans })
+        Ok(Self {
+            row: Some(row_of_one(alloc, key, value)?),
+        })
     }
+}
+
+/// The row of one tag.
+fn row_of_one(alloc: Global, key: &str, value: &str) -> Result<Box<TagRow>, OutOfMemory>
+    ensures cuts { IfOk result (λ row. AreSpans row.value.text.items row.value.spans.items) }
+    ensures tag { IfOk result (λ row. pairs_of row.value.text.items row.value.spans.items ≡ (chars key.now, chars value.now) ∷ []) }
+{
+    let mut row = TagRow {
+        text: Vec::new(alloc),
+        spans: Vec::new(alloc),
+    };
+    append(&mut row.text, &mut row.spans, key, value)?;
+    Ok(Box::new(alloc, row)?)
 }
 
 /// Puts a tag behind the tags of these spans.

@@ -8,8 +8,6 @@ use Rattle.osm_base.proofs.values.tags.Tags.get.Goals as goal
 pub returns : goal.returns
 returns c = record {
   value = c.value_of.ensures.value
-      ∙ rw (c.deref.ensures.value, c.deref-2.ensures.value)
-      (sym (map.get-from_entries nat_list_cmp_total (pairs_of c.self.inside.text.items c.self.inside.spans.items)
-      (chars c.args.key.now)))
-      ∙ ap (λ tags. map.get tags (chars c.args.key.now)) c.self.view_is;
+      ∙ sym (map.get-from_entries nat_list_cmp_total (pairs_of c.parts.result.0.now c.parts.result.1.now) (chars c.args.key.now))
+      ∙ ap (λ tags. map.get tags (chars c.args.key.now)) (sym c.parts.ensures.map);
 }
