@@ -46,6 +46,10 @@ is_above own other not apart =
     let turned = key_cmp_total.antisymm other own in
     ap is_lt turned ∙ greater_of (key_cmp own other) not (sym (ap is_eq turned) ∙ apart)
 
+not_true : (b : Bool) → (b ≡ true → ⊥) → b ≡ false
+not_true true not = absurd (not refl)
+not_true false not = refl
+
 -- Keys of entries rise.
 
 rises_from : (last : Option KeyOf) (entries : List Entry) (i j : ℕ) → RiseFrom last entries → i < j → j < length entries
@@ -80,9 +84,19 @@ module _ (entries : List Entry) (rise : IsChange entries) (key : KeyOf) where
       same_or_less : (a b : ℕ) → a ≤ b → (a ≡ b) ⊎ (a < b)
       same_or_less a b order = grind arith
 
-      not_true : (b : Bool) → (b ≡ true → ⊥) → b ≡ false
-      not_true true not = absurd (not refl)
-      not_true false not = refl
+  pub below_same : (middle k : ℕ) → middle < length entries → eq_by_cmp key_cmp key (key_in entries middle) ≡ true → k < middle
+      → is_below (key_in entries k) key ≡ true
+  below_same middle k inside same less =
+      ap (is_below (key_in entries k)) (same_key key (key_in entries middle) same) ∙ rises_from None entries k middle rise less inside
+
+  pub none_same : (middle k : ℕ) → middle < length entries → eq_by_cmp key_cmp key (key_in entries middle) ≡ true → middle ≤ k
+      → k < length entries → is_below (key_in entries k) key ≡ false
+  none_same middle k within same more inside =
+      none_below middle k (ap (is_below (key_in entries middle)) (same_key key (key_in entries middle) same) ∙ never (key_in entries middle))
+      more inside
+    where
+      never : (own : KeyOf) → is_below own own ≡ false
+      never own = not_true (is_below own own) (λ below. false≢true (sym (below_apart own own below) ∙ (eq_by_cmp_equiv key_cmp_total).refl own))
 
   untouched_of : (own : List Entry) → ((k : ℕ) → k < length own → eq_by_cmp key_cmp key (key_in own k) ≡ false) → Untouched key own
   untouched_of [] each = tt

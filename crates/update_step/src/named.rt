@@ -95,7 +95,11 @@ pub(crate) fn place_of(entries: &[Entry], start: usize, kind: Kind, id: u64) -> 
     while low < high {
         let place = next_place(entries, low, high, start, turn, id);
         turn = turn.wrapping_add(1);
-        if is_before(entries[place].key, kind, id) {
+        let key = entries[place].key;
+        if is_of(key, kind, id) {
+            return place;
+        }
+        if is_before(key, kind, id) {
             low = place + 1;
         } else {
             high = place;
