@@ -3,7 +3,7 @@ ghost use Rattle.std.specs.Prelude.{◌≡◌, ◌<◌, Bool, true, false, IfSom
 ghost use Rattle.std.specs.Option.{option_map};
 ghost use Rattle.opl_object.specs.declared.letter.Letter.{Letter};
 ghost use Rattle.opl_object.specs.Letter.{letter_of, letter_at, byte_of, also};
-ghost use Rattle.opl_object.specs.Seen.{stands};
+ghost use Rattle.opl_object.specs.Seen.{flag_of, stands};
 
 use crate::fields::{after_first, first_byte};
 use osm_base::Kind;
@@ -45,6 +45,26 @@ impl Letter {
             Letter::Members => b'M',
         }
     }
+
+    /// The place of its flag.
+    fn place(self) -> usize
+        ensures value { result ≡ flag_of self }
+        ensures within { result < 16 }
+    {
+        match self {
+            Letter::Version => 0,
+            Letter::Visible => 1,
+            Letter::Changeset => 2,
+            Letter::Time => 3,
+            Letter::UserId => 4,
+            Letter::User => 5,
+            Letter::Tags => 6,
+            Letter::Lon => 7,
+            Letter::Lat => 8,
+            Letter::Nodes => 9,
+            Letter::Members => 10,
+        }
+    }
 }
 
 /// The letter that a byte is, in a line of this kind.
@@ -83,7 +103,7 @@ pub(crate) fn letter_at(kind: Kind, field: &str) -> Option<(Letter, &str)>
 /// The letters that stood in a line.
 #[derive(Drop)]
 pub struct Seen {
-    flags: [bool; 128],
+    flags: [bool; 16],
 }
 
 impl Seen {
@@ -92,7 +112,7 @@ impl Seen {
         ensures none { (letter : Letter) → stands result letter ≡ false }
     {
         Self {
-            flags: [false; 128],
+            flags: [false; 16],
         }
     }
 
@@ -101,7 +121,7 @@ impl Seen {
         ensures before { result ≡ stands self.old letter }
         ensures after { (other : Letter) → stands self.new other ≡ also (stands self.old) letter other }
     {
-        let place = usize::from(letter.byte());
+        let place = letter.place();
         let before = self.flags[place];
         self.flags[place] = true;
         before
