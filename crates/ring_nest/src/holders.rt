@@ -58,13 +58,11 @@ fn holders_of(
     tree: &Tree,
     rings: &[Places],
     number: usize,
-    mask: &mut [bool],
+    mask: &mut [bool; LEAF],
 ) -> Result<Vec<usize>, OutOfMemory>
     requires tree { HoldsAll rings.now tree.now }
     requires within { number < length rings.now }
-    requires mask { length mask.old ≡ LEAF }
     ensures holders { IfOk result (λ holders. holders.items ≡ holders_in rings.now tree.now (ring_at rings.now number)) }
-    ensures mask { length mask.new ≡ LEAF }
 {
     let asked = start_of(rings[number].as_slice());
     let mut found = Vec::new(alloc);
@@ -108,14 +106,12 @@ fn owner_at(
     rings: &[Places],
     holders: &Holders,
     at: usize,
-    mask: &mut [bool],
+    mask: &mut [bool; LEAF],
 ) -> Result<Option<usize>, OutOfMemory>
     requires tree { HoldsAll rings.now tree.now }
     requires within { at < length rings.now }
     requires holders { KeepsHolders rings.now tree.now holders.now }
-    requires mask { length mask.old ≡ LEAF }
     ensures owner { IfOk result (λ owner. owner ≡ inner_owner rings.now (ring_at rings.now at)) }
-    ensures mask { length mask.new ≡ LEAF }
 {
     let depth = holders.depths[at];
     if depth % 2 == 0 {
@@ -173,14 +169,12 @@ fn depth_at(
     tree: &Tree,
     rings: &[Places],
     number: usize,
-    mask: &mut [bool],
+    mask: &mut [bool; LEAF],
 ) -> Result<usize, OutOfMemory>
     requires known { IsKnown rings.now known.now }
     requires tree { HoldsAll rings.now tree.now }
     requires within { number < length rings.now }
-    requires mask { length mask.old ≡ LEAF }
     ensures depth { IfOk result (λ depth. depth ≡ depth_of_ring rings.now (ring_at rings.now number)) }
-    ensures mask { length mask.new ≡ LEAF }
 {
     if let Some(depth) = told_depth(alloc, known, rings, number, mask)? {
         return Ok(depth);

@@ -132,14 +132,12 @@ fn owner_at(
     rings: &[Places],
     depths: &[usize],
     at: usize,
-    mask: &mut [bool],
+    mask: &mut [bool; LEAF],
 ) -> Result<Option<usize>, OutOfMemory>
     requires trees { HoldsDepths rings.now depths.now trees.now }
     requires depths { depths.now ≡ map (depth_of_ring rings.now) rings.now }
     requires within { at < length rings.now }
-    requires mask { length mask.old ≡ LEAF }
     ensures owner { IfOk result (λ owner. owner ≡ inner_owner rings.now (ring_at rings.now at)) }
-    ensures mask { length mask.new ≡ LEAF }
 {
     let depth = depths[at];
     if depth % 2 == 0 {

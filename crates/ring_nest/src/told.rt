@@ -141,14 +141,12 @@ fn other_holders_of(
     known: &Known,
     rings: &[Places],
     number: usize,
-    mask: &mut [bool],
+    mask: &mut [bool; LEAF],
 ) -> Result<usize, OutOfMemory>
     requires known { IsKnown rings.now known.now }
     requires boxed { AllByRecursion IsBoxed rings.now }
     requires within { number < length rings.now }
-    requires mask { length mask.old ≡ LEAF }
     ensures count { IfOk result (λ some. some ≡ other_holders rings.now known.now.marks.items (ring_at rings.now number)) }
-    ensures mask { length mask.new ≡ LEAF }
 {
     let asked = start_of(rings[number].as_slice());
     let mut found = Vec::new(alloc);
@@ -162,14 +160,12 @@ pub(crate) fn told_depth(
     known: &Known,
     rings: &[Places],
     number: usize,
-    mask: &mut [bool],
+    mask: &mut [bool; LEAF],
 ) -> Result<Option<usize>, OutOfMemory>
     requires known { IsKnown rings.now known.now }
     requires boxed { AllByRecursion IsBoxed rings.now }
     requires within { number < length rings.now }
-    requires mask { length mask.old ≡ LEAF }
     ensures depth { IfOk result (λ told. IfSome told (λ some. some ≡ depth rings.now (ring_at rings.now number))) }
-    ensures mask { length mask.new ≡ LEAF }
 {
     let Some(marked) = marked_holders_of(known, rings, number) else {
         return Ok(None);

@@ -173,12 +173,11 @@ fn add_of_leaf(
     rings: &[Places],
     number: usize,
     asked: GeoBox,
-    mask: &mut [bool],
+    mask: &mut [bool; LEAF],
     found: &mut Vec<usize>,
 ) -> Result<(), OutOfMemory>
     requires is_leaf { IsLeaf (map around rings.now) leaf.now }
     requires asked { IsAsked rings.now number asked }
-    requires mask { length mask.old ≡ LEAF }
     ensures { OnOk result (found.new.items ≡ found.old.items ++ filter (is_holder rings.now (ring_at rings.now number)) leaf.now.numbers.items) }
 {
     let (marks, _) = mask.split_at_mut(leaf.boxes.len());
@@ -227,12 +226,11 @@ pub(crate) fn add_holders(
     rings: &[Places],
     number: usize,
     asked: GeoBox,
-    mask: &mut [bool],
+    mask: &mut [bool; LEAF],
     found: &mut Vec<usize>,
 ) -> Result<(), OutOfMemory>
     requires is_tree { IsTree (map around rings.now) tree.now }
     requires asked { IsAsked rings.now number asked }
-    requires mask { length mask.old ≡ LEAF }
     ensures { OnOk result (found.new.items ≡ found.old.items ++ filter (is_holder rings.now (ring_at rings.now number)) (numbers_of tree.now)) }
 {
     if !may_hold(around_of(tree), rings[number].as_slice()) {

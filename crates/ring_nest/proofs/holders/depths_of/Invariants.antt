@@ -6,7 +6,6 @@ use Rattle.ring_nest.proofs.holders.depths_of.Given as goal
 abbrev pub invariant-loop-at : goal.invariant-loop-at
 invariant-loop-at l = record {
   within : l.at ≤ length l.rings;
-  mask_length : length l.mask ≡ 16;
   depths_so_far : l.depths.items ≡ map (depth l.rings) (take l.at l.rings);
 }
 

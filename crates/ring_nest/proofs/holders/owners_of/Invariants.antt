@@ -6,7 +6,6 @@ use Rattle.ring_nest.proofs.holders.owners_of.Given as goal
 abbrev pub invariant-loop-at : goal.invariant-loop-at
 invariant-loop-at l = record {
   within : l.at ≤ length l.rings;
-  mask_length : length l.mask ≡ 16;
   owners_so_far : l.owners.items ≡ map (inner_owner l.rings) (take l.at l.rings);
 }
 

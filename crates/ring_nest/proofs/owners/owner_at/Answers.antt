@@ -8,8 +8,8 @@ tree_with-requires c =
     let long = c.requires.trees.long in
     omega (arith, low, long)
 
-pub returns-clause-owner : goal.returns-clause-owner
-returns-clause-owner c =
+pub returns : goal.returns
+returns c =
     let rings = c.args.rings.now in
     let depths = c.args.depths.now in
     let deep = get_or depths c.args.at 0 in
@@ -19,4 +19,4 @@ returns-clause-owner c =
     let tree = c.tree_with.result.now in
     let held = c.requires.trees.each (deep - 1) tree within c.tree_with.ensures in
     let least = rw (c.deref.ensures.value, c.in_ok-add_holders.ensures, c.new-found.ensures.items) at c.least_of.ensures in
-    owner_in_tree rings depths c.args.at tree c.least_of.result c.requires.depths c.requires.within c.if-depth-eq0.false held.all least
+    record { owner = owner_in_tree rings depths c.args.at tree c.least_of.result c.requires.depths c.requires.within c.if-depth-eq0.false held.all least }

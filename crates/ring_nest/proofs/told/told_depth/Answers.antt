@@ -3,10 +3,10 @@ use Rattle.ring_nest.specs.Nesting.{depth, ring_at}
 use Rattle.ring_nest.proofs.Marked.{depth_of}
 use Rattle.ring_nest.proofs.told.told_depth.Goals as goal
 
-pub returns-clause-depth : goal.returns-clause-depth
-returns-clause-depth c =
+pub returns : goal.returns
+returns c =
     let rings = c.args.rings.now in
     let all = depth_of rings c.args.known.now.marks.items (ring_at rings c.args.number) c.requires.known.marked in
     let sum : depth rings (ring_at rings c.args.number) ≡ c.in_ok-others.others + c.in-Some.marked =
     omega (arith, all, c.in-Some.ensures, c.in_ok-others.ensures.count) in
-    rw sum (search rules)
+    record { depth = rw sum (search rules) }
