@@ -1,5 +1,7 @@
 -- Rings that are not marked, and what is known of all.
 use Rattle.std.proofs.Common.{◌≡◌, ℕ, ◌+◌, ◌<◌, ◌≤◌, suc, refl, sym, ap, ◌∙◌, arith, Bool, true, false, cond, not, List, [], ◌∷◌, length, count_by, add-zero, add-one, zero-add, ◌++◌}
+use Rattle.std.proofs.Math.Logic.{∥∥₁_elim}
+use Rattle.std.proofs.Props.{props}
 use Rattle.std.specs.List.{AllByRecursion, filter, range_with_len}
 use Rattle.std.specs.List.Sorted.{IsPermutation}
 use Rattle.std.proofs.lemmas.List.{append-nil}
@@ -37,12 +39,12 @@ count_from P M ring (own ∷ rings) (mark ∷ marks) from same ps ms =
 
 -- how many of the others hold a ring, by their numbers in any order
 pub others_are : (rings : List Ring) (marks : List Bool) (order : List ℕ) (ring : Ring) → length marks ≡ length rings
-    → IsPermutation (unmarked marks) order → length (filter (is_holder rings ring) order) ≡ other_holders rings marks ring
-others_are rings marks order ring same permutation =
+    → ∥ IsPermutation (unmarked marks) order ∥₁ → length (filter (is_holder rings ring) order) ≡ other_holders rings marks ring
+others_are rings marks order ring same some = ∥∥₁_elim some (hlevel props) (λ permutation.
     length-filter (is_holder rings ring) order
     ∙ sum_by-IsPermutation (λ number. cond (is_holder rings ring number) 1 0) (unmarked marks) order permutation
     ∙ count_from (is_holder rings ring) (λ number. not (is_marked marks number)) ring rings marks 0 same
-    (λ i h. ap (is_holder rings ring) (zero-add i)) (λ i h. ap (λ number. not (is_marked marks number)) (zero-add i))
+    (λ i h. ap (is_holder rings ring) (zero-add i)) (λ i h. ap (λ number. not (is_marked marks number)) (zero-add i)))
 
 -- those that are marked and the others are all
 pub depth_of : (rings : List Ring) (marks : List Bool) (ring : Ring) → length marks ≡ length rings

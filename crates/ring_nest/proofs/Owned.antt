@@ -2,6 +2,8 @@
 use Rattle.std.proofs.Common.{length-append, ◌≡◌, ◌≢◌, ℕ, ◌+◌, ◌-◌, ◌<◌, ◌≤◌, ◌==◌, suc, zero, refl, sym, ap, ◌∙◌, arith, List, [], ◌∷◌}
 use Rattle.std.proofs.Common.{◌++◌, length, map, take, get_or, Bool, true, false, cond, not, ◌&&◌, ◌||◌, if◌then◌else◌, nat_le, nat_lt, Option}
 use Rattle.std.proofs.Common.{Some, None, zero-add, add-zero, count_by}
+use Rattle.std.proofs.Math.Logic.{∥∥₁_elim}
+use Rattle.std.proofs.Props.{props}
 use Rattle.std.specs.List.{AllByRecursion, filter, list_any, position_from, range_with_len}
 use Rattle.std.specs.List.Sorted.{IsPermutation}
 use Rattle.std.proofs.lemmas.Bool.Decides.{nat_tests}
@@ -53,7 +55,7 @@ depths_from rings (ring ∷ some) order permutation = rw (depth_is rings order r
 
 pub depths_are : (rings : List Ring) (tree : Tree) → HoldsAll rings tree
     → map (λ ring. length (holders_in rings tree ring)) rings ≡ map (depth rings) rings
-depths_are rings tree h = depths_from rings rings (numbers_of tree) h.all
+depths_are rings tree h = ∥∥₁_elim h.all (hlevel props) (depths_from rings rings (numbers_of tree))
 
 always : (b : Bool) → (b || true) ≡ false → ⊥
 always true e = cc
@@ -220,7 +222,8 @@ owner_is rings tree depths at r h e low least =
     let ring = ring_at rings at in
     let deep : get_or depths at 0 ≡ depth rings ring = rw e (get_or-map (depth rings) rings at [] 0 low) in
     let here = rw deep at least in
-    ap (λ all. owner_from rings 0 all ring) (sym (rings_are rings)) ∙ owner_least rings depths (numbers_of tree) ring e h.all r here
+    ap (λ all. owner_from rings 0 all ring) (sym (rings_are rings))
+    ∙ ∥∥₁_elim h.all (hlevel props) (λ all. owner_least rings depths (numbers_of tree) ring e all r here)
 
 all_below_next : (number count : ℕ) (any : Bool) → (not (nat_lt number count) || any) ≡ false → (number < count) × (any ≡ false)
 all_below_next number count true e = absurd (always (not (nat_lt number count)) e)
@@ -287,8 +290,8 @@ pub holders_below : (rings : List Ring) (tree : Tree) (ring : Ring) → HoldsAll
     → AllByRecursion (λ number. number < length rings) (holders_in rings tree ring)
 holders_below rings tree ring h =
     all_filter (λ number. number < length rings) (is_holder rings ring) (numbers_of tree)
-    (order_below (length rings) (range_with_len 0 (length rings)) (numbers_of tree) h.all
-    (range_below 0 (length rings) (length rings) (omega arith)))
+    (∥∥₁_elim h.all (hlevel props) (λ all. order_below (length rings) (range_with_len 0 (length rings)) (numbers_of tree) all
+    (range_below 0 (length rings) (length rings) (omega arith))))
 
 least_next : (p : ℕ → Bool) (numbers : List ℕ) (number : ℕ) (r : Option ℕ) → p number ≡ false → IsLeast p numbers r
     → IsLeast p (numbers ++ number ∷ []) r

@@ -1,6 +1,8 @@
 -- Edges of rings from their south ends to their north ends, by natural numbers: how far north of the pole and east of the antimeridian
 -- their ends are.
 use Rattle.std.specs.Prelude.{◌≡◌, ◌<◌, ◌≤◌, ◌+◌, ◌-◌, ◌*◌, ℕ, Bool, true, ◌&&◌, nat_le, nat_lt, List, [], ◌∷◌, if◌then◌else◌}
+use Rattle.std.specs.Coded.{×_prop, Unit-prop}
+use Rattle.std.proofs.Props.{props}
 use Rattle.std.specs.List.{AllByRecursion}
 use Rattle.ring_nest.specs.declared.edges.Edge.{Edge}
 use Rattle.ring_nest.specs.declared.row.Row.{Row}
@@ -43,6 +45,11 @@ abbrev pub AreWest : List Edge → Type 0
 AreWest [] = Unit {0}
 AreWest (edge ∷ []) = Unit {0}
 AreWest (edge ∷ next ∷ edges) = IsWest edge next × AreWest (next ∷ edges)
+
+pub AreWest-prop : (edges : List Edge) → IsProp (AreWest edges)
+AreWest-prop [] = Unit-prop
+AreWest-prop (edge ∷ []) = Unit-prop
+AreWest-prop (edge ∷ next ∷ edges) = ×_prop (hlevel props) (AreWest-prop (next ∷ edges))
 
 -- whether an edge goes over a slab of latitudes
 abbrev pub spans : (low high : ℕ) → Edge → Bool

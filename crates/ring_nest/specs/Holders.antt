@@ -1,6 +1,7 @@
 -- Rings by their numbers: a tree of boxes, the rings that hold a ring, and the one that it belongs to.
 use Rattle.std.specs.Prelude.{◌≡◌, ◌<◌, ◌≤◌, ◌++◌, ◌==◌, ◌&&◌, ◌+◌, ℕ, Bool, true, false, List, length, map, Option, Some, None, nat_le, nat_lt}
 use Rattle.std.specs.Prelude.{if◌then◌else◌, slice_index_or}
+use Rattle.std.proofs.Props.{props}
 use Rattle.std.specs.List.{AllByRecursion, filter, list_any, range_with_len}
 use Rattle.std.specs.List.Sorted.{IsPermutation}
 use Rattle.osm_base.specs.declared.values.place.GeoBox.{GeoBox}
@@ -70,7 +71,16 @@ inner_owner rings ring = if is_outer rings ring then None else owner rings ring
 pub record HoldsAll (rings : List Ring) (tree : Tree) : Type 0 where
   pub boxed : AllByRecursion IsBoxed rings
   pub is_tree : IsTree (map around rings) tree
-  pub all : IsPermutation (range_with_len 0 (length rings)) (numbers_of tree)
+  pub all : ∥ IsPermutation (range_with_len 0 (length rings)) (numbers_of tree) ∥₁
+
+pub IsTree-prop : (boxes : List GeoBox) (tree : Tree) → IsProp (IsTree boxes tree)
+IsTree-prop boxes (Few leaf) = hlevel props
+IsTree-prop boxes (Halves' box p left q right) =
+    hlevel (IsTree-prop boxes left, IsTree-prop boxes right, props)
+
+-- a tree is one of all rings in one way at most
+pub HoldsAll-prop : (rings : List Ring) (tree : Tree) → IsProp (HoldsAll rings tree)
+HoldsAll-prop rings tree = hlevel (IsTree-prop (map around rings) tree, props)
 
 -- what is kept of the holders of each ring
 pub record KeepsHolders (rings : List Ring) (tree : Tree) (holders : Holders) : Type 0 where

@@ -1,10 +1,12 @@
 -- Edges by slabs of latitudes: those that go over a whole slab, and the others by its halves.
 use Rattle.std.specs.Prelude.{◌≡◌, ◌<◌, ◌≤◌, ◌+◌, ◌&&◌, ℕ, Bool, not, nat_lt, List, count_by, if◌then◌else◌}
+use Rattle.std.proofs.Props.{props}
 use Rattle.std.specs.List.{AllByRecursion}
 use Rattle.ring_nest.specs.declared.edges.Edge.{Edge}
 use Rattle.ring_nest.specs.declared.slabs.Slabs.{Slabs}
 use Rattle.ring_nest.specs.declared.slabs.Slabs.TheVariants.{Few, Slab'}
-use Rattle.ring_nest.specs.Edges.{IsEdge, IsRow, passes, spans}
+use Rattle.ring_nest.specs.declared.row.Row.{Row}
+use Rattle.ring_nest.specs.Edges.{AreWest-prop, IsEdge, IsRow, passes, spans}
 
 -- whether an edge goes over the whole of a slab
 abbrev pub is_across : (low high : ℕ) → Edge → Bool
@@ -27,6 +29,15 @@ count_in (Slab' row middle p south q upper) north east =
 abbrev pub AreSlabs : (low high : ℕ) → Slabs → Type 0
 AreSlabs low high (Few edges) = AllByRecursion IsEdge edges.items
 AreSlabs low high (Slab' row middle p south q upper) = IsRow low high row × AreSlabs low middle south × AreSlabs middle high upper
+
+IsRow-prop : (low high : ℕ) (row : Row) → IsProp (IsRow low high row)
+IsRow-prop low high row = hlevel (AreWest-prop row.edges.items, props)
+
+-- slabs lie between two latitudes in one way at most
+pub AreSlabs-prop : (low high : ℕ) (slabs : Slabs) → IsProp (AreSlabs low high slabs)
+AreSlabs-prop low high (Few edges) = hlevel props
+AreSlabs-prop low high (Slab' row middle p south q upper) =
+    hlevel (IsRow-prop low high row, AreSlabs-prop low middle south, AreSlabs-prop middle high upper)
 
 -- the edges are counted
 abbrev pub Counts : (low high : ℕ) → List Edge → Slabs → Type 0

@@ -1,5 +1,6 @@
 -- Rings whose edges tell how many of them hold a ring, without looking at each.
 use Rattle.std.specs.Prelude.{◌≡◌, ◌<◌, ◌+◌, ◌-◌, ◌==◌, ◌-ℤ◌, ℕ, pos, Bool, false, cond, not, List, length, map, count_by, slice_index_or}
+use Rattle.std.proofs.Props.{props}
 use Rattle.std.specs.List.{filter, range_with_len}
 use Rattle.std.specs.List.Sorted.{IsNonDecreasing, IsPermutation}
 use Rattle.lanes_geo.specs.Crossing.{crossings}
@@ -9,11 +10,11 @@ use Rattle.ring_nest.specs.declared.known.Known.{Known}
 use Rattle.ring_nest.specs.declared.opened.TheConstants.{TOP}
 use Rattle.ring_nest.specs.declared.slabs.Slabs.{Slabs}
 use Rattle.ring_nest.specs.Around.{around}
-use Rattle.ring_nest.specs.Holders.{IsTree, numbers_of}
+use Rattle.ring_nest.specs.Holders.{IsTree, IsTree-prop, numbers_of}
 use Rattle.ring_nest.specs.Latitudes.{at_latitude}
 use Rattle.ring_nest.specs.Nesting.{Ring, holds, ring_at}
 use Rattle.ring_nest.specs.Opened.{crossings_in, odd_in, sum_open}
-use Rattle.ring_nest.specs.Slabs.{AreSlabs, count_in}
+use Rattle.ring_nest.specs.Slabs.{AreSlabs, AreSlabs-prop, count_in}
 
 -- the place next to another one in the west
 abbrev pub westward : PlaceOf → PlaceOf
@@ -66,4 +67,11 @@ pub record IsKnown (rings : List Ring) (known : Known) : Type 0 where
   pub rising : IsNonDecreasing known.lats.items
   pub lats : (north : ℕ) → count_by (λ own. own == north) known.lats.items ≡ sum_open (at_latitude north) rings known.marks.items
   pub others : IsTree (map around rings) known.others
-  pub all_others : IsPermutation (unmarked known.marks.items) (numbers_of known.others)
+  pub all_others : ∥ IsPermutation (unmarked known.marks.items) (numbers_of known.others) ∥₁
+
+AreCounted-prop : (slabs : Slabs) → IsProp (AreCounted slabs)
+AreCounted-prop slabs = hlevel (AreSlabs-prop 0 TOP slabs, props)
+
+-- rings are known in one way at most
+pub IsKnown-prop : (rings : List Ring) (known : Known) → IsProp (IsKnown rings known)
+IsKnown-prop rings known = hlevel (AreCounted-prop known.minus, AreCounted-prop known.plus, IsTree-prop (map around rings) known.others, props)

@@ -2,16 +2,18 @@
 ghost use Rattle.std.specs.Prelude.{◌≡◌, ◌≢◌, ◌<◌, ◌≤◌, ◌%◌, length, map, IfOk, IfSome};
 ghost use Rattle.std.specs.List.{AllByRecursion, range_with_len};
 ghost use Rattle.ring_nest.specs.Nesting.{depth as depth_of_ring, ring_at};
-ghost use Rattle.ring_nest.specs.Around.{IsBoxed, around};
 ghost use Rattle.ring_nest.specs.Holders.{HoldsAll, IsLeast, KeepsHolders, few_of as few_of_list, holders_in, inner_owner, is_above};
 ghost use Rattle.ring_nest.specs.Told.{IsKnown};
 
+use crate::asked::Asked;
+use crate::boxed::BoxedRings;
 use crate::boxes::start_of;
 use crate::known::{Known, known_of};
 use crate::owners::{lesser, owners_by_depth};
+use crate::ring_tree::RingTree;
 use crate::told::told_depth;
 use crate::tree::{LEAF, Tree, add_holders, tree_of};
-use osm_base::{GeoBox, Items, OutOfMemory, Places};
+use osm_base::{Items, OutOfMemory};
 use std::alloc::Global;
 
 /// The holders of a ring are kept where they are no more than these. Those of a deeper ring are looked for again when they are
@@ -43,30 +45,26 @@ fn numbers_below(alloc: Global, count: usize) -> Result<Vec<usize>, OutOfMemory>
 }
 
 /// The tree of all rings.
-fn tree_of_all(alloc: Global, rings: &[Places], boxes: &[GeoBox]) -> Result<Tree, OutOfMemory>
-    requires boxes { boxes.now ≡ map around rings.now }
-    requires boxed { AllByRecursion IsBoxed rings.now }
-    ensures { IfOk result (HoldsAll rings.now) }
+fn tree_of_all(alloc: Global, boxed: &BoxedRings) -> Result<Tree, OutOfMemory>
+    ensures { IfOk result (HoldsAll boxed.now.rings.now) }
 {
-    let numbers = numbers_below(alloc, rings.len())?;
-    tree_of(alloc, boxes, numbers)
+    let numbers = numbers_below(alloc, boxed.rings.len())?;
+    tree_of(alloc, boxed.boxes, numbers)
 }
 
 /// The numbers of the rings that hold a ring.
 fn holders_of(
     alloc: Global,
-    tree: &Tree,
-    rings: &[Places],
+    tree: &RingTree,
     number: usize,
     mask: &mut [bool; LEAF],
 ) -> Result<Vec<usize>, OutOfMemory>
-    requires tree { HoldsAll rings.now tree.now }
-    requires within { number < length rings.now }
-    ensures holders { IfOk result (λ holders. holders.items ≡ holders_in rings.now tree.now (ring_at rings.now number)) }
+    requires within { number < length tree.now.rings.now }
+    ensures holders { IfOk result (λ holders. holders.items ≡ holders_in tree.now.rings.now tree.now.root.now (ring_at tree.now.rings.now number)) }
 {
-    let asked = start_of(rings[number].as_slice());
+    let asked = start_of(tree.rings[number].as_slice());
     let mut found = Vec::new(alloc);
-    add_holders(tree, rings, number, asked, mask, &mut found)?;
+    add_holders(tree.root, tree.rings, number, asked, mask, &mut found)?;
     Ok(found)
 }
 
@@ -82,16 +80,16 @@ fn few_of(holders: Vec<usize>) -> Option<Items<usize>>
 }
 
 /// The holders of each ring.
-fn holders_of_each(alloc: Global, tree: &Tree, rings: &[Places]) -> Result<Holders, OutOfMemory>
-    requires tree { HoldsAll rings.now tree.now }
-    ensures { IfOk result (KeepsHolders rings.now tree.now) }
+fn holders_of_each(alloc: Global, tree: &RingTree) -> Result<Holders, OutOfMemory>
+    ensures { IfOk result (KeepsHolders tree.now.rings.now tree.now.root.now) }
 {
+    let rings = tree.rings;
     let mut mask = [false; LEAF];
     let mut depths = Vec::with_capacity(alloc, rings.len())?;
     let mut few = Vec::with_capacity(alloc, rings.len())?;
     let mut at = 0;
     while rings.len() - at > 0 {
-        let holders = holders_of(alloc, tree, rings, at, &mut mask)?;
+        let holders = holders_of(alloc, tree, at, &mut mask)?;
         depths.push(holders.len())?;
         few.push(few_of(holders))?;
         at += 1;
@@ -102,16 +100,14 @@ fn holders_of_each(alloc: Global, tree: &Tree, rings: &[Places]) -> Result<Holde
 /// The ring that a ring belongs to, if it is an inner one and belongs to one.
 fn owner_at(
     alloc: Global,
-    tree: &Tree,
-    rings: &[Places],
+    tree: &RingTree,
     holders: &Holders,
     at: usize,
     mask: &mut [bool; LEAF],
 ) -> Result<Option<usize>, OutOfMemory>
-    requires tree { HoldsAll rings.now tree.now }
-    requires within { at < length rings.now }
-    requires holders { KeepsHolders rings.now tree.now holders.now }
-    ensures owner { IfOk result (λ owner. owner ≡ inner_owner rings.now (ring_at rings.now at)) }
+    requires within { at < length tree.now.rings.now }
+    requires holders { KeepsHolders tree.now.rings.now tree.now.root.now holders.now }
+    ensures owner { IfOk result (λ owner. owner ≡ inner_owner tree.now.rings.now (ring_at tree.now.rings.now at)) }
 {
     let depth = holders.depths[at];
     if depth % 2 == 0 {
@@ -120,41 +116,39 @@ fn owner_at(
     if let Some(few) = &holders.few[at] {
         return Ok(owner_of(few.as_slice(), &holders.depths, depth));
     }
-    let all = holders_of(alloc, tree, rings, at, mask)?;
+    let all = holders_of(alloc, tree, at, mask)?;
     Ok(owner_of(&all, &holders.depths, depth))
 }
 
 /// The ring that each inner ring belongs to.
 fn owners_of(
     alloc: Global,
-    tree: &Tree,
-    rings: &[Places],
+    tree: &RingTree,
     holders: &Holders,
 ) -> Result<Vec<Option<usize>>, OutOfMemory>
-    requires tree { HoldsAll rings.now tree.now }
-    requires holders { KeepsHolders rings.now tree.now holders.now }
-    ensures { IfOk result (λ owners. owners.items ≡ map (inner_owner rings.now) rings.now) }
+    requires holders { KeepsHolders tree.now.rings.now tree.now.root.now holders.now }
+    ensures { IfOk result (λ owners. owners.items ≡ map (inner_owner tree.now.rings.now) tree.now.rings.now) }
 {
+    let rings = tree.rings;
     let mut mask = [false; LEAF];
     let mut owners = Vec::with_capacity(alloc, rings.len())?;
     let mut at = 0;
     while rings.len() - at > 0 {
-        owners.push(owner_at(alloc, tree, rings, holders, at, &mut mask)?)?;
+        owners.push(owner_at(alloc, tree, holders, at, &mut mask)?)?;
         at += 1;
     }
     Ok(owners)
 }
 
 /// Whether a quarter of some rings have more holders than are kept. Either answer is right: it only tells which way is shorter.
-fn are_deep(alloc: Global, tree: &Tree, rings: &[Places]) -> Result<bool, OutOfMemory>
-    requires tree { HoldsAll rings.now tree.now }
-{
+fn are_deep(alloc: Global, tree: &RingTree) -> Result<bool, OutOfMemory> {
+    let rings = tree.rings;
     let mut mask = [false; LEAF];
     let step = rings.len() / SAMPLES + 1;
     let mut deep = 0_usize;
     let mut at = 0;
     while at < rings.len() {
-        if holders_of(alloc, tree, rings, at, &mut mask)?.len() > FEW {
+        if holders_of(alloc, tree, at, &mut mask)?.len() > FEW {
             deep = deep.saturating_add(1);
         }
         at = at.saturating_add(step);
@@ -166,38 +160,41 @@ fn are_deep(alloc: Global, tree: &Tree, rings: &[Places]) -> Result<bool, OutOfM
 fn depth_at(
     alloc: Global,
     known: &Known,
-    tree: &Tree,
-    rings: &[Places],
+    tree: &RingTree,
     number: usize,
     mask: &mut [bool; LEAF],
 ) -> Result<usize, OutOfMemory>
-    requires known { IsKnown rings.now known.now }
-    requires tree { HoldsAll rings.now tree.now }
-    requires within { number < length rings.now }
-    ensures depth { IfOk result (λ depth. depth ≡ depth_of_ring rings.now (ring_at rings.now number)) }
+    requires known { IsKnown tree.now.rings.now known.now }
+    requires within { number < length tree.now.rings.now }
+    ensures depth { IfOk result (λ depth. depth ≡ depth_of_ring tree.now.rings.now (ring_at tree.now.rings.now number)) }
 {
-    if let Some(depth) = told_depth(alloc, known, rings, number, mask)? {
+    let rings = tree.rings;
+    let asked = Asked {
+        known,
+        rings,
+        number,
+    };
+    if let Some(depth) = told_depth(alloc, &asked, mask)? {
         return Ok(depth);
     }
-    Ok(holders_of(alloc, tree, rings, number, mask)?.len())
+    Ok(holders_of(alloc, tree, number, mask)?.len())
 }
 
 /// The depth of each ring.
 fn depths_of(
     alloc: Global,
     known: &Known,
-    tree: &Tree,
-    rings: &[Places],
+    tree: &RingTree,
 ) -> Result<Vec<usize>, OutOfMemory>
-    requires known { IsKnown rings.now known.now }
-    requires tree { HoldsAll rings.now tree.now }
-    ensures { IfOk result (λ depths. depths.items ≡ map (depth_of_ring rings.now) rings.now) }
+    requires known { IsKnown tree.now.rings.now known.now }
+    ensures { IfOk result (λ depths. depths.items ≡ map (depth_of_ring tree.now.rings.now) tree.now.rings.now) }
 {
+    let rings = tree.rings;
     let mut mask = [false; LEAF];
     let mut depths = Vec::with_capacity(alloc, rings.len())?;
     let mut at = 0;
     while rings.len() - at > 0 {
-        depths.push(depth_at(alloc, known, tree, rings, at, &mut mask)?)?;
+        depths.push(depth_at(alloc, known, tree, at, &mut mask)?)?;
         at += 1;
     }
     Ok(depths)
@@ -206,17 +203,18 @@ fn depths_of(
 /// The depth of each ring by the edges, where they are known. What they are kept in is let go, since what comes behind takes room too.
 fn told_depths(
     alloc: Global,
-    tree: &Tree,
-    rings: &[Places],
-    boxes: &[GeoBox],
+    root: &Tree,
+    boxed: &BoxedRings,
 ) -> Result<Option<Vec<usize>>, OutOfMemory>
-    requires boxes { boxes.now ≡ map around rings.now }
-    requires boxed { AllByRecursion IsBoxed rings.now }
-    requires tree { HoldsAll rings.now tree.now }
-    ensures { IfOk result (λ told. IfSome told (λ depths. depths.items ≡ map (depth_of_ring rings.now) rings.now)) }
+    requires root { HoldsAll boxed.now.rings.now root.now }
+    ensures { IfOk result (λ told. IfSome told (λ depths. depths.items ≡ map (depth_of_ring boxed.now.rings.now) boxed.now.rings.now)) }
 {
-    match known_of(alloc, rings, boxes)? {
-        Some(known) => Ok(Some(depths_of(alloc, &known, tree, rings)?)),
+    let tree = RingTree {
+        rings: boxed.rings,
+        root,
+    };
+    match known_of(alloc, boxed)? {
+        Some(known) => Ok(Some(depths_of(alloc, &known, &tree)?)),
         None => Ok(None),
     }
 }
@@ -224,23 +222,24 @@ fn told_depths(
 /// The depth of each ring, and the ring that each inner one belongs to.
 pub(crate) fn depths_and_owners(
     alloc: Global,
-    rings: &[Places],
-    boxes: &[GeoBox],
+    boxed: &BoxedRings,
 ) -> Result<(Vec<usize>, Vec<Option<usize>>), OutOfMemory>
-    requires boxes { boxes.now ≡ map around rings.now }
-    requires boxed { AllByRecursion IsBoxed rings.now }
-    ensures depths { IfOk result (λ (depths, owners). depths.items ≡ map (depth_of_ring rings.now) rings.now) }
-    ensures owners { IfOk result (λ (depths, owners). owners.items ≡ map (inner_owner rings.now) rings.now) }
+    ensures depths { IfOk result (λ (depths, owners). depths.items ≡ map (depth_of_ring boxed.now.rings.now) boxed.now.rings.now) }
+    ensures owners { IfOk result (λ (depths, owners). owners.items ≡ map (inner_owner boxed.now.rings.now) boxed.now.rings.now) }
 {
-    let tree = tree_of_all(alloc, rings, boxes)?;
-    if rings.len() > MANY && are_deep(alloc, &tree, rings)? {
-        if let Some(depths) = told_depths(alloc, &tree, rings, boxes)? {
-            let owners = owners_by_depth(alloc, rings, boxes, &depths)?;
+    let root = tree_of_all(alloc, boxed)?;
+    let tree = RingTree {
+        rings: boxed.rings,
+        root: &root,
+    };
+    if tree.rings.len() > MANY && are_deep(alloc, &tree)? {
+        if let Some(depths) = told_depths(alloc, &root, boxed)? {
+            let owners = owners_by_depth(alloc, boxed, &depths)?;
             return Ok((depths, owners));
         }
     }
-    let holders = holders_of_each(alloc, &tree, rings)?;
-    let owners = owners_of(alloc, &tree, rings, &holders)?;
+    let holders = holders_of_each(alloc, &tree)?;
+    let owners = owners_of(alloc, &tree, &holders)?;
     let Holders { depths, .. } = holders;
     Ok((depths, owners))
 }

@@ -1,19 +1,19 @@
 //! What is known of many rings together: the edges of those that open, the latitudes of their places, and a tree of the others.
-ghost use Rattle.std.specs.Prelude.{◌≡◌, ◌+◌, length, map, IfOk, IfSome};
+ghost use Rattle.std.specs.Prelude.{◌≡◌, ◌+◌, length, IfOk, IfSome};
 ghost use Rattle.std.specs.List.{AllByRecursion};
 ghost use Rattle.lanes_geo.specs.Grid.{IsPlace};
 ghost use Rattle.osm_base.specs.values.Place.{PlaceOf};
-ghost use Rattle.ring_nest.specs.Around.{IsBoxed, around};
 ghost use Rattle.ring_nest.specs.Edges.{IsEdge};
 ghost use Rattle.ring_nest.specs.Opened.{count_at, crossings_in, odd_in};
 ghost use Rattle.ring_nest.specs.Told.{AreCounted, IsKnown, counted_at, unmarked as unmarked_numbers};
 
+use crate::boxed::BoxedRings;
 use crate::edges::Edge;
 use crate::latitudes::latitudes_of;
 use crate::opened::{TOP, opened_of};
 use crate::slabs::{Slabs, are_quick, slabs_of};
 use crate::tree::{Tree, tree_of};
-use osm_base::{GeoBox, OutOfMemory, Places};
+use osm_base::OutOfMemory;
 use std::alloc::Global;
 
 /// What is known of many rings together.
@@ -54,23 +54,21 @@ fn by_slabs(alloc: Global, edges: Vec<Edge>) -> Result<Slabs, OutOfMemory>
 /// What is known of rings, of which some are marked.
 fn known_with(
     alloc: Global,
-    rings: &[Places],
-    boxes: &[GeoBox],
+    boxed: &BoxedRings,
     marks: Vec<bool>,
     minus: Slabs,
     plus: Slabs,
 ) -> Result<Known, OutOfMemory>
-    requires boxes { boxes.now ≡ map around rings.now }
-    requires marked { length marks.items ≡ length rings.now }
+    requires marked { length marks.items ≡ length boxed.now.rings.now }
     requires minus { AreCounted minus }
     requires plus { AreCounted plus }
-    requires inside { (place : PlaceOf) → IsPlace place → counted_at place plus ≡ counted_at place minus + odd_in place rings.now marks.items }
-    requires crossed { (place : PlaceOf) → IsPlace place → counted_at place plus + counted_at place minus ≡ crossings_in place rings.now marks.items }
-    ensures known { IfOk result (IsKnown rings.now) }
+    requires inside { (place : PlaceOf) → IsPlace place → counted_at place plus ≡ counted_at place minus + odd_in place boxed.now.rings.now marks.items }
+    requires crossed { (place : PlaceOf) → IsPlace place → counted_at place plus + counted_at place minus ≡ crossings_in place boxed.now.rings.now marks.items }
+    ensures known { IfOk result (IsKnown boxed.now.rings.now) }
 {
-    let lats = latitudes_of(alloc, rings, &marks)?;
+    let lats = latitudes_of(alloc, boxed.rings, &marks)?;
     let numbers = unmarked(alloc, &marks)?;
-    let others = tree_of(alloc, boxes, numbers)?;
+    let others = tree_of(alloc, boxed.boxes, numbers)?;
     Ok(Known {
         marks,
         minus,
@@ -81,20 +79,14 @@ fn known_with(
 }
 
 /// What is known of rings. None where too many of their edges cross for it to be of use.
-pub(crate) fn known_of(
-    alloc: Global,
-    rings: &[Places],
-    boxes: &[GeoBox],
-) -> Result<Option<Known>, OutOfMemory>
-    requires boxes { boxes.now ≡ map around rings.now }
-    requires boxed { AllByRecursion IsBoxed rings.now }
-    ensures known { IfOk result (λ known. IfSome known (IsKnown rings.now)) }
+pub(crate) fn known_of(alloc: Global, boxed: &BoxedRings) -> Result<Option<Known>, OutOfMemory>
+    ensures known { IfOk result (λ known. IfSome known (IsKnown boxed.now.rings.now)) }
 {
-    let opened = opened_of(alloc, rings)?;
+    let opened = opened_of(alloc, boxed.rings)?;
     let minus = by_slabs(alloc, opened.minus)?;
     let plus = by_slabs(alloc, opened.plus)?;
     if !are_quick(&minus) || !are_quick(&plus) {
         return Ok(None);
     }
-    Ok(Some(known_with(alloc, rings, boxes, opened.marks, minus, plus)?))
+    Ok(Some(known_with(alloc, boxed, opened.marks, minus, plus)?))
 }

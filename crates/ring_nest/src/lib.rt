@@ -19,7 +19,10 @@
 //! numbers of 64 bits. The answer has its own copy of each ring.
 #![tactic(auto)]
 
+mod asked;
+mod boxed;
 mod boxes;
+mod deep;
 mod edges;
 mod holders;
 mod known;
@@ -29,6 +32,7 @@ mod opening;
 mod owners;
 mod polygons;
 mod ring_edges;
+mod ring_tree;
 mod rings;
 mod row;
 mod segment;

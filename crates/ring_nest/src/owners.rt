@@ -3,13 +3,14 @@
 ghost use Rattle.std.specs.Prelude.{◌≡◌, ◌<◌, ◌+◌, ◌++◌, ◌∷◌, [], ℕ, true, length, map, replicate, IfOk, OnOk, slice_index_or, slice_set};
 ghost use Rattle.std.specs.List.{AllByRecursion};
 ghost use Rattle.ring_nest.specs.Nesting.{depth as depth_of_ring, ring_at};
-ghost use Rattle.ring_nest.specs.Around.{IsBoxed, around};
 ghost use Rattle.ring_nest.specs.Holders.{IsLeast, inner_owner, lesser_of};
 ghost use Rattle.ring_nest.specs.DepthTrees.{HasLists, HasTrees, HoldsDepths, IsTreeOf};
 
+use crate::boxed::BoxedRings;
 use crate::boxes::start_of;
+use crate::deep::DeepRings;
 use crate::tree::{LEAF, Tree, add_holders, tree_of};
-use osm_base::{GeoBox, Items, OutOfMemory, Places};
+use osm_base::{GeoBox, Items, OutOfMemory};
 use std::alloc::Global;
 
 /// Empty lists.
@@ -83,17 +84,14 @@ fn trees_of(
 /// The tree of the rings of each depth.
 fn trees_by_depth(
     alloc: Global,
-    rings: &[Places],
-    boxes: &[GeoBox],
+    boxed: &BoxedRings,
     depths: &[usize],
 ) -> Result<Vec<Tree>, OutOfMemory>
-    requires boxes { boxes.now ≡ map around rings.now }
-    requires boxed { AllByRecursion IsBoxed rings.now }
-    requires depths { depths.now ≡ map (depth_of_ring rings.now) rings.now }
-    ensures { IfOk result (λ trees. HoldsDepths rings.now depths.now trees.items) }
+    requires depths { depths.now ≡ map (depth_of_ring boxed.now.rings.now) boxed.now.rings.now }
+    ensures { IfOk result (λ trees. HoldsDepths boxed.now.rings.now depths.now trees.items) }
 {
     let lists = lists_of(alloc, depths)?;
-    trees_of(alloc, boxes, &lists)
+    trees_of(alloc, boxed.boxes, &lists)
 }
 
 /// The lesser of a number so far, if there is one, and another one.
@@ -129,25 +127,23 @@ fn tree_with(trees: &[Tree], number: usize) -> &Tree
 fn owner_at(
     alloc: Global,
     trees: &[Tree],
-    rings: &[Places],
-    depths: &[usize],
+    deep: &DeepRings,
     at: usize,
     mask: &mut [bool; LEAF],
 ) -> Result<Option<usize>, OutOfMemory>
-    requires trees { HoldsDepths rings.now depths.now trees.now }
-    requires depths { depths.now ≡ map (depth_of_ring rings.now) rings.now }
-    requires within { at < length rings.now }
-    ensures owner { IfOk result (λ owner. owner ≡ inner_owner rings.now (ring_at rings.now at)) }
+    requires trees { HoldsDepths deep.now.rings.now deep.now.depths.now trees.now }
+    requires within { at < length deep.now.rings.now }
+    ensures owner { IfOk result (λ owner. owner ≡ inner_owner deep.now.rings.now (ring_at deep.now.rings.now at)) }
 {
-    let depth = depths[at];
+    let depth = deep.depths[at];
     if depth % 2 == 0 {
         return Ok(None);
     }
-    let asked = start_of(rings[at].as_slice());
+    let asked = start_of(deep.rings[at].as_slice());
     let mut found = Vec::new(alloc);
     add_holders(
         tree_with(trees, depth - 1),
-        rings,
+        deep.rings,
         at,
         asked,
         mask,
@@ -159,21 +155,20 @@ fn owner_at(
 /// The ring that each inner ring belongs to.
 pub(crate) fn owners_by_depth(
     alloc: Global,
-    rings: &[Places],
-    boxes: &[GeoBox],
+    boxed: &BoxedRings,
     depths: &[usize],
 ) -> Result<Vec<Option<usize>>, OutOfMemory>
-    requires boxes { boxes.now ≡ map around rings.now }
-    requires boxed { AllByRecursion IsBoxed rings.now }
-    requires depths { depths.now ≡ map (depth_of_ring rings.now) rings.now }
-    ensures { IfOk result (λ owners. owners.items ≡ map (inner_owner rings.now) rings.now) }
+    requires depths { depths.now ≡ map (depth_of_ring boxed.now.rings.now) boxed.now.rings.now }
+    ensures { IfOk result (λ owners. owners.items ≡ map (inner_owner boxed.now.rings.now) boxed.now.rings.now) }
 {
-    let trees = trees_by_depth(alloc, rings, boxes, depths)?;
+    let rings = boxed.rings;
+    let deep = DeepRings { rings, depths };
+    let trees = trees_by_depth(alloc, boxed, depths)?;
     let mut mask = [false; LEAF];
     let mut owners = Vec::with_capacity(alloc, rings.len())?;
     let mut at = 0;
     while rings.len() - at > 0 {
-        owners.push(owner_at(alloc, &trees, rings, depths, at, &mut mask)?)?;
+        owners.push(owner_at(alloc, &trees, &deep, at, &mut mask)?)?;
         at += 1;
     }
     Ok(owners)

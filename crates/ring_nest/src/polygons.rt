@@ -4,10 +4,12 @@ ghost use Rattle.std.specs.Option.{option_map};
 ghost use Rattle.osm_base.specs.values.Line.{IsRing};
 ghost use Rattle.osm_base.specs.values.Place.{PlaceOf};
 ghost use Rattle.ring_nest.specs.Holders.{inner_owner};
-ghost use Rattle.ring_nest.specs.Nesting.{has_place, depth as depth_of_ring, nested};
+ghost use Rattle.ring_nest.specs.Nesting.{has_place, nested};
 ghost use Rattle.ring_nest.specs.Polygons.{filled, polygons_from, slots_from};
 
+use crate::boxed::BoxedRings;
 use crate::boxes::boxes_of;
+use crate::deep::DeepRings;
 use crate::holders::depths_and_owners;
 use osm_base::{LineList, OutOfMemory, Places, Polygons, TryCopy};
 use std::alloc::Global;
@@ -61,14 +63,11 @@ fn add_outer(
 }
 
 /// The polygons of the outer rings alone.
-fn outers_of(
-    alloc: Global,
-    rings: &[Places],
-    depths: &[usize],
-) -> Result<Vec<LineList>, OutOfMemory>
-    requires depths { depths.now ≡ map (depth_of_ring rings.now) rings.now }
-    ensures { IfOk result (λ polygons. polygons.items ≡ polygons_from rings.now [] 0 rings.now) }
+fn outers_of(alloc: Global, deep: &DeepRings) -> Result<Vec<LineList>, OutOfMemory>
+    ensures { IfOk result (λ polygons. polygons.items ≡ polygons_from deep.now.rings.now [] 0 deep.now.rings.now) }
 {
+    let rings = deep.rings;
+    let depths = deep.depths;
     let mut polygons = Vec::with_capacity(alloc, rings.len())?;
     let mut at = 0;
     while rings.len() - at > 0 {
@@ -99,23 +98,21 @@ fn slot_at(slots: &[usize], number: usize) -> usize
 /// Adds a ring, if it is an inner one, to the polygon that it belongs to, and tells whether it has a place.
 fn add_ring(
     alloc: Global,
-    rings: &[Places],
+    deep: &DeepRings,
     owners: &[Option<usize>],
-    depths: &[usize],
     slots: &[usize],
     at: usize,
     polygons: &mut Vec<LineList>,
 ) -> Result<bool, OutOfMemory>
-    requires owners { owners.now ≡ map (inner_owner rings.now) rings.now }
-    requires depths { depths.now ≡ map (depth_of_ring rings.now) rings.now }
-    requires slots { slots.now ≡ slots_from 0 depths.now }
-    requires at { at < length rings.now }
-    requires so_far { polygons.old.items ≡ polygons_from rings.now (take at rings.now) 0 rings.now }
-    ensures placed { IfOk result (λ placed. placed ≡ has_place rings.now (slice_index_or rings.now at [])) }
-    ensures added { IfOk result (λ placed. placed ≡ true → polygons.new.items ≡ polygons_from rings.now (take (at + 1) rings.now) 0 rings.now) }
+    requires owners { owners.now ≡ map (inner_owner deep.now.rings.now) deep.now.rings.now }
+    requires slots { slots.now ≡ slots_from 0 deep.now.depths.now }
+    requires at { at < length deep.now.rings.now }
+    requires so_far { polygons.old.items ≡ polygons_from deep.now.rings.now (take at deep.now.rings.now) 0 deep.now.rings.now }
+    ensures placed { IfOk result (λ placed. placed ≡ has_place deep.now.rings.now (slice_index_or deep.now.rings.now at [])) }
+    ensures added { IfOk result (λ placed. placed ≡ true → polygons.new.items ≡ polygons_from deep.now.rings.now (take (at + 1) deep.now.rings.now) 0 deep.now.rings.now) }
 {
-    let ring = &rings[at];
-    let depth = depths[at];
+    let ring = &deep.rings[at];
+    let depth = deep.depths[at];
     if depth % 2 == 0 {
         return Ok(true);
     }
@@ -131,21 +128,20 @@ fn add_ring(
 /// The polygons with their inner rings; none where an inner ring belongs to no ring.
 fn with_inners(
     alloc: Global,
-    rings: &[Places],
+    deep: &DeepRings,
     owners: &[Option<usize>],
-    depths: &[usize],
     outers: Vec<LineList>,
 ) -> Result<Option<Vec<LineList>>, OutOfMemory>
-    requires owners { owners.now ≡ map (inner_owner rings.now) rings.now }
-    requires depths { depths.now ≡ map (depth_of_ring rings.now) rings.now }
-    requires outers { outers.items ≡ polygons_from rings.now [] 0 rings.now }
-    ensures { IfOk result (λ polygons. option_map (λ some. some.items) polygons ≡ filled rings.now) }
+    requires owners { owners.now ≡ map (inner_owner deep.now.rings.now) deep.now.rings.now }
+    requires outers { outers.items ≡ polygons_from deep.now.rings.now [] 0 deep.now.rings.now }
+    ensures { IfOk result (λ polygons. option_map (λ some. some.items) polygons ≡ filled deep.now.rings.now) }
 {
-    let slots = slots_of(alloc, depths)?;
+    let rings = deep.rings;
+    let slots = slots_of(alloc, deep.depths)?;
     let mut polygons = outers;
     let mut at = 0;
     while rings.len() - at > 0 {
-        if !add_ring(alloc, rings, owners, depths, &slots, at, &mut polygons)? {
+        if !add_ring(alloc, deep, owners, &slots, at, &mut polygons)? {
             return Ok(None);
         }
         at += 1;
@@ -162,9 +158,17 @@ pub fn nest(alloc: Global, rings: &LineList) -> Result<Option<Polygons>, OutOfMe
 {
     let rings = rings.as_slice();
     let boxes = boxes_of(alloc, rings)?;
-    let (depths, owners) = depths_and_owners(alloc, rings, &boxes)?;
-    let outers = outers_of(alloc, rings, &depths)?;
-    match with_inners(alloc, rings, &owners, &depths, outers)? {
+    let boxed = BoxedRings {
+        rings,
+        boxes: &boxes,
+    };
+    let (depths, owners) = depths_and_owners(alloc, &boxed)?;
+    let deep = DeepRings {
+        rings,
+        depths: &depths,
+    };
+    let outers = outers_of(alloc, &deep)?;
+    match with_inners(alloc, &deep, &owners, outers)? {
         None => Ok(None),
         Some(polygons) => Ok(Some(Polygons::from_vec(polygons))),
     }

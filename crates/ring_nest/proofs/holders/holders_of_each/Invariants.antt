@@ -6,8 +6,8 @@ use Rattle.ring_nest.proofs.holders.holders_of_each.Given as goal
 abbrev pub invariant-loop-at : goal.invariant-loop-at
 invariant-loop-at l = record {
   within : l.at ≤ length l.rings;
-  counted : l.depths.items ≡ map (λ ring. length (holders_in l.rings l.tree ring)) (take l.at l.rings);
-  kept : l.few.items ≡ map (λ ring. few_of (holders_in l.rings l.tree ring)) (take l.at l.rings);
+  counted : l.depths.items ≡ map (λ ring. length (holders_in l.rings l.tree.root.now ring)) (take l.at l.rings);
+  kept : l.few.items ≡ map (λ ring. few_of (holders_in l.rings l.tree.root.now ring)) (take l.at l.rings);
 }
 
 abbrev pub decreases-loop-at : goal.decreases-loop-at

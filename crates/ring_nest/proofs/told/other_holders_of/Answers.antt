@@ -7,9 +7,9 @@ use Rattle.ring_nest.proofs.told.other_holders_of.Goals as goal
 
 pub returns : goal.returns
 returns c =
-    let rings = c.args.rings.now in
-    let known = c.args.known.now in
-    let found : length c.add_holders.new.found.items ≡ other_holders rings known.marks.items (ring_at rings c.args.number) =
+    let rings = c.args.asked.now.rings.now in
+    let known = c.args.asked.now.known.now in
+    let found : length c.add_holders.new.found.items ≡ other_holders rings known.marks.items (ring_at rings c.args.asked.now.number) =
     ap length (c.in_ok-add_holders.ensures ∙ rw c.new-found.ensures.items refl)
-    ∙ others_are rings known.marks.items (numbers_of known.others) (ring_at rings c.args.number) c.requires.known.marked c.requires.known.all_others in
+    ∙ others_are rings known.marks.items (numbers_of known.others) (ring_at rings c.args.asked.now.number) c.args.asked.now.is_known.marked c.args.asked.now.is_known.all_others in
     record { count = omega (arith, found, c.len.ensures, c.add_holders.new.found.ok.0) }
