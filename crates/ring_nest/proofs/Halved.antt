@@ -3,57 +3,49 @@ use Rattle.std.proofs.Common.{◌≡◌, ℕ, ◌+◌, ◌-◌, ◌<◌, ◌≤�
 use Rattle.std.specs.List.{AllByRecursion, filter}
 use Rattle.std.proofs.lemmas.Bool.Decides.{nat_tests}
 use Rattle.std.proofs.lemmas.List.Sums.{sum_by-cons}
-use Rattle.ring_nest.specs.declared.edges.Edge.{Edge}
-use Rattle.ring_nest.specs.Edges.{IsEdge, Spans, passes, spans, straddles}
+use Rattle.ring_nest.specs.Edge.{EdgeOf}
+use Rattle.ring_nest.specs.Edges.{Spans, passes, spans, straddles}
 use Rattle.ring_nest.specs.Slabs.{is_across, is_north, is_south}
 
 -- ---- what is kept
 
-keep_one : (P : Edge → Type 0) (edge : Edge) (edges : List Edge) (b : Bool) → P edge → AllByRecursion P edges → AllByRecursion P (cond b (edge ∷ edges) edges)
-keep_one P edge edges true one all = (one, all)
-keep_one P edge edges false one all = all
-
-pub all_kept : (p : Edge → Bool) (edges : List Edge) → AllByRecursion IsEdge edges → AllByRecursion IsEdge (filter p edges)
-all_kept p [] all = tt
-all_kept p (edge ∷ edges) all = keep_one IsEdge edge (filter p edges) (p edge) all.0 (all_kept p edges all.1)
-
-span_one : (low high : ℕ) (edge : Edge) (edges : List Edge) (b : Bool) → spans low high edge ≡ b → IsEdge edge → AllByRecursion (Spans low high) edges
+span_one : (low high : ℕ) (edge : EdgeOf) (edges : List EdgeOf) (b : Bool) → spans low high edge ≡ b → AllByRecursion (Spans low high) edges
     → AllByRecursion (Spans low high) (cond b (edge ∷ edges) edges)
-span_one low high edge edges true e one all =
-    (record { is = one; from = grind (arith, nat_tests); to = grind (arith, nat_tests) }, all)
-span_one low high edge edges false e one all = all
+span_one low high edge edges true e all =
+    (record { from = grind (arith, nat_tests); to = grind (arith, nat_tests) }, all)
+span_one low high edge edges false e all = all
 
-pub all_across : (low high : ℕ) (edges : List Edge) → AllByRecursion IsEdge edges → AllByRecursion (Spans low high) (filter (is_across low high) edges)
-all_across low high [] all = tt
-all_across low high (edge ∷ edges) all =
-    span_one low high edge (filter (is_across low high) edges) (spans low high edge) refl all.0 (all_across low high edges all.1)
+pub all_across : (low high : ℕ) (edges : List EdgeOf) → AllByRecursion (Spans low high) (filter (is_across low high) edges)
+all_across low high [] = tt
+all_across low high (edge ∷ edges) =
+    span_one low high edge (filter (is_across low high) edges) (spans low high edge) refl (all_across low high edges)
 
 -- ---- each edge that passes is counted once
 
-one_step : (P : Edge → Bool) (edge : Edge) (xs ys : List Edge) (n : ℕ) (a b : Bool) → (a ≡ true → b ≡ false) → (a ≡ false → b ≡ false → P edge ≡ false)
+one_step : (P : EdgeOf → Bool) (edge : EdgeOf) (xs ys : List EdgeOf) (n : ℕ) (a b : Bool) → (a ≡ true → b ≡ false) → (a ≡ false → b ≡ false → P edge ≡ false)
     → count_by P xs + count_by P ys ≡ n → count_by P (cond a (edge ∷ xs) xs) + count_by P (cond b (edge ∷ ys) ys) ≡ cond (P edge) 1 0 + n
 one_step P edge xs ys n true true once none e = absurd (let no : true ≡ false = once refl in cc)
 one_step P edge xs ys n true false once none e = rw sum_by-cons (omega (arith, e))
 one_step P edge xs ys n false true once none e = rw sum_by-cons (omega (arith, e))
 one_step P edge xs ys n false false once none e = rw (none refl refl) (omega (arith, e))
 
-one_each : (P p q : Edge → Bool) → ((edge : Edge) → p edge ≡ true → q edge ≡ false) → ((edge : Edge) → p edge ≡ false → q edge ≡ false → P edge ≡ false)
-    → (edges : List Edge) → count_by P (filter p edges) + count_by P (filter q edges) ≡ count_by P edges
+one_each : (P p q : EdgeOf → Bool) → ((edge : EdgeOf) → p edge ≡ true → q edge ≡ false) → ((edge : EdgeOf) → p edge ≡ false → q edge ≡ false → P edge ≡ false)
+    → (edges : List EdgeOf) → count_by P (filter p edges) + count_by P (filter q edges) ≡ count_by P edges
 one_each P p q once none [] = refl
 one_each P p q once none (edge ∷ edges) =
     one_step P edge (filter p edges) (filter q edges) (count_by P edges) (p edge) (q edge) (once edge) (none edge) (one_each P p q once none edges)
-    ∙ sym (sum_by-cons (λ (own : Edge). cond {A = ℕ} (P own) 1 0) edge edges)
+    ∙ sym (sum_by-cons (λ (own : EdgeOf). cond {A = ℕ} (P own) 1 0) edge edges)
 
-kept_step : (P : Edge → Bool) (edge : Edge) (xs : List Edge) (n : ℕ) (a : Bool) → (a ≡ false → P edge ≡ false) → count_by P xs ≡ n
+kept_step : (P : EdgeOf → Bool) (edge : EdgeOf) (xs : List EdgeOf) (n : ℕ) (a : Bool) → (a ≡ false → P edge ≡ false) → count_by P xs ≡ n
     → count_by P (cond a (edge ∷ xs) xs) ≡ cond (P edge) 1 0 + n
 kept_step P edge xs n true none e = rw sum_by-cons (omega (arith, e))
 kept_step P edge xs n false none e = rw (none refl) (omega (arith, e))
 
-pub all_counted : (P p : Edge → Bool) → ((edge : Edge) → p edge ≡ false → P edge ≡ false) → (edges : List Edge) → count_by P (filter p edges) ≡ count_by P edges
+pub all_counted : (P p : EdgeOf → Bool) → ((edge : EdgeOf) → p edge ≡ false → P edge ≡ false) → (edges : List EdgeOf) → count_by P (filter p edges) ≡ count_by P edges
 all_counted P p none [] = refl
 all_counted P p none (edge ∷ edges) =
     kept_step P edge (filter p edges) (count_by P edges) (p edge) (none edge) (all_counted P p none edges)
-    ∙ sym (sum_by-cons (λ (own : Edge). cond {A = ℕ} (P own) 1 0) edge edges)
+    ∙ sym (sum_by-cons (λ (own : EdgeOf). cond {A = ℕ} (P own) 1 0) edge edges)
 
 -- an edge without the latitude passes no place of it
 pub no_pass : (a b : Bool) → a ≡ false → (a && b) ≡ false
@@ -62,24 +54,24 @@ no_pass a b e = rw e refl
 not_both : (a b : Bool) → a ≡ true → (not a && b) ≡ false
 not_both a b e = rw e refl
 
-neither_south : (low middle high north : ℕ) (edge : Edge) → low ≤ north → north < middle → is_across low high edge ≡ false → is_south low middle high edge ≡ false
+neither_south : (low middle high north : ℕ) (edge : EdgeOf) → low ≤ north → north < middle → is_across low high edge ≡ false → is_south low middle high edge ≡ false
     → straddles north edge ≡ false
 neither_south low middle high north edge from to a b =
     let c : (nat_lt low edge.high && nat_lt edge.low middle) ≡ false = rw a at b in
     grind (arith, nat_tests)
 
-neither_north : (low middle high north : ℕ) (edge : Edge) → middle ≤ north → north < high → is_across low high edge ≡ false → is_north low middle high edge ≡ false
+neither_north : (low middle high north : ℕ) (edge : EdgeOf) → middle ≤ north → north < high → is_across low high edge ≡ false → is_north low middle high edge ≡ false
     → straddles north edge ≡ false
 neither_north low middle high north edge from to a b =
     let c : (nat_lt middle edge.high && nat_lt edge.low high) ≡ false = rw a at b in
     grind (arith, nat_tests)
 
-not_across : (low high north : ℕ) (edge : Edge) → high - low < 2 → low ≤ north → north < high → is_across low high edge ≡ false → straddles north edge ≡ false
+not_across : (low high north : ℕ) (edge : EdgeOf) → high - low < 2 → low ≤ north → north < high → is_across low high edge ≡ false → straddles north edge ≡ false
 not_across low high north edge thin from to a =
     let same : north ≡ low = omega arith in
     grind (arith, nat_tests)
 
-pub south_counts : (low middle high north east : ℕ) (edges row whole half : List Edge) (south upper : ℕ) → low ≤ north → north < middle
+pub south_counts : (low middle high north east : ℕ) (edges row whole half : List EdgeOf) (south upper : ℕ) → low ≤ north → north < middle
     → count_by (passes north east) row ≡ count_by (passes north east) whole → whole ≡ filter (is_across low high) edges
     → half ≡ filter (is_south low middle high) edges → south ≡ count_by (passes north east) half
     → count_by (passes north east) row + (if nat_lt north middle then south else upper) ≡ count_by (passes north east) edges
@@ -90,7 +82,7 @@ south_counts low middle high north east edges row whole half south upper from to
     let side : nat_lt north middle ≡ true = grind (arith, nat_tests) in
     rw (side, e, f, h, g) each
 
-pub north_counts : (low middle high north east : ℕ) (edges row whole half : List Edge) (south upper : ℕ) → middle ≤ north → north < high
+pub north_counts : (low middle high north east : ℕ) (edges row whole half : List EdgeOf) (south upper : ℕ) → middle ≤ north → north < high
     → count_by (passes north east) row ≡ count_by (passes north east) whole → whole ≡ filter (is_across low high) edges
     → half ≡ filter (is_north low middle high) edges → upper ≡ count_by (passes north east) half
     → count_by (passes north east) row + (if nat_lt north middle then south else upper) ≡ count_by (passes north east) edges
@@ -105,7 +97,7 @@ pub nothing_more : (b : Bool) (n : ℕ) → n + (if b then 0 else 0) ≡ n
 nothing_more true n = omega arith
 nothing_more false n = omega arith
 
-pub thin_counts : (low high north east : ℕ) (edges row whole : List Edge) → high - low < 2 → low ≤ north → north < high
+pub thin_counts : (low high north east : ℕ) (edges row whole : List EdgeOf) → high - low < 2 → low ≤ north → north < high
     → count_by (passes north east) row ≡ count_by (passes north east) whole → whole ≡ filter (is_across low high) edges
     → count_by (passes north east) row ≡ count_by (passes north east) edges
 thin_counts low high north east edges row whole thin from to e f =

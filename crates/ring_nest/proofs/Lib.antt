@@ -1,6 +1,5 @@
 pub mod Depths
 pub mod Marked
-pub mod Spanned
 pub mod Counted
 pub mod Lats
 pub mod Near

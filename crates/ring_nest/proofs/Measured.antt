@@ -6,15 +6,14 @@ use Rattle.std.proofs.lemmas.Int.{ints}
 use Rattle.lanes_geo.specs.Crossing.{crossings, odd}
 use Rattle.lanes_geo.specs.Grid.{IsPlace, east_of, north_of}
 use Rattle.osm_base.specs.values.Place.{PlaceOf}
-use Rattle.ring_nest.specs.declared.edges.Edge.{Edge}
+use Rattle.ring_nest.specs.Edge.{EdgeOf}
 use Rattle.ring_nest.specs.declared.opened.TheConstants.{TOP}
-use Rattle.ring_nest.specs.Edges.{IsEdge, edge_between, falling, falling_from, passes, rising, rising_from}
+use Rattle.ring_nest.specs.Edges.{falling, passes, rising}
 use Rattle.ring_nest.specs.Nesting.{Ring}
 use Rattle.ring_nest.specs.Opened.{AreMeasured, IsMeasured, count_at, sum_open}
 use Rattle.ring_nest.specs.Opening.{IsOpened, OpensIn}
 use Rattle.std.proofs.lemmas.List.Sums.{sum_by-append}
 use Rattle.ring_nest.proofs.RingEdges.{crossed}
-use Rattle.ring_nest.proofs.Walked.{all_join}
 
 -- ---- the edges of a ring
 
@@ -23,31 +22,6 @@ north_fits place here = let top = here.north in let low = here.south in grind (a
 
 pub east_fits : (place : PlaceOf) → IsPlace place → east_of place ≤ 3600000000
 east_fits place here = let top = here.east in let low = here.west in grind (arith, ints)
-
-edge_is : (p q : PlaceOf) → IsPlace p → IsPlace q → nat_lt (north_of p) (north_of q) ≡ true → IsEdge (edge_between p q)
-edge_is p q one other e = record { north = grind (arith, nat_tests); high = north_fits q other; at_low = east_fits p one; at_high = east_fits q other }
-
-add_one : (edge : Edge) (edges : List Edge) (b : Bool) → (b ≡ true → IsEdge edge) → AllByRecursion IsEdge edges → AllByRecursion IsEdge (if b then edge ∷ edges else edges)
-add_one edge edges true one all = (one refl, all)
-add_one edge edges false one all = all
-
-rising_are_from : (p : PlaceOf) (ps : List PlaceOf) → IsPlace p → AllByRecursion IsPlace ps → AllByRecursion IsEdge (rising_from p ps)
-rising_are_from p [] one all = tt
-rising_are_from p (q ∷ ps) one all =
-    add_one (edge_between p q) (rising_from q ps) (nat_lt (north_of p) (north_of q)) (edge_is p q one all.0) (rising_are_from q ps all.0 all.1)
-
-pub rising_are : (own : Ring) → AllByRecursion IsPlace own → AllByRecursion IsEdge (rising own)
-rising_are [] all = tt
-rising_are (p ∷ ps) all = rising_are_from p ps all.0 all.1
-
-falling_are_from : (p : PlaceOf) (ps : List PlaceOf) → IsPlace p → AllByRecursion IsPlace ps → AllByRecursion IsEdge (falling_from p ps)
-falling_are_from p [] one all = tt
-falling_are_from p (q ∷ ps) one all =
-    add_one (edge_between q p) (falling_from q ps) (nat_lt (north_of q) (north_of p)) (edge_is q p all.0 one) (falling_are_from q ps all.0 all.1)
-
-pub falling_are : (own : Ring) → AllByRecursion IsPlace own → AllByRecursion IsEdge (falling own)
-falling_are [] all = tt
-falling_are (p ∷ ps) all = falling_are_from p ps all.0 all.1
 
 -- ---- a ring that opens
 
@@ -62,8 +36,6 @@ by_parity m p c (inr e) f =
 pub opens_up : (own : Ring) → AllByRecursion IsPlace own → OpensIn 0 TOP (falling own) (rising own)
     → IsMeasured own (falling own) (rising own)
 opens_up own all opens = record {
-  minus_are = falling_are own all;
-  plus_are = rising_are own all;
   inside = λ place here.
       let low = north_fits place here in
       by_parity (count_at place (falling own)) (count_at place (rising own)) (crossings own place)
@@ -74,8 +46,6 @@ opens_up own all opens = record {
 pub opens_down : (own : Ring) → AllByRecursion IsPlace own → OpensIn 0 TOP (rising own) (falling own)
     → IsMeasured own (rising own) (falling own)
 opens_down own all opens = record {
-  minus_are = rising_are own all;
-  plus_are = falling_are own all;
   inside = λ place here.
       let low = north_fits place here in
       by_parity (count_at place (rising own)) (count_at place (falling own)) (crossings own place)
@@ -85,8 +55,8 @@ opens_down own all opens = record {
 
 -- ---- several rings
 
-count_more : (place : PlaceOf) (some more : List Edge) → count_at place (some ++ more) ≡ count_at place some + count_at place more
-count_more place some more = sum_by-append (λ (edge : Edge). cond {A = ℕ} (passes (north_of place) (east_of place) edge) 1 0) some more
+count_more : (place : PlaceOf) (some more : List EdgeOf) → count_at place (some ++ more) ≡ count_at place some + count_at place more
+count_more place some more = sum_by-append (λ (edge : EdgeOf). cond {A = ℕ} (passes (north_of place) (east_of place) edge) 1 0) some more
 
 sum_more : (f : Ring → ℕ) (rings : List Ring) (marks : List Bool) (own : Ring) (mark : Bool) → length marks ≡ length rings
     → sum_open f (rings ++ own ∷ []) (marks ++ mark ∷ []) ≡ sum_open f rings marks + cond mark (f own) 0
@@ -101,12 +71,10 @@ more_marked : (rings : List Ring) (marks : List Bool) (own : Ring) (mark : Bool)
     → length (marks ++ mark ∷ []) ≡ length (rings ++ own ∷ [])
 more_marked rings marks own mark e = omega (arith, e, length-append marks (mark ∷ []), length-append rings (own ∷ []))
 
-pub one_more : (rings : List Ring) (marks : List Bool) (minus plus m p : List Edge) (own : Ring) → AreMeasured rings marks minus plus → IsMeasured own m p
+pub one_more : (rings : List Ring) (marks : List Bool) (minus plus m p : List EdgeOf) (own : Ring) → AreMeasured rings marks minus plus → IsMeasured own m p
     → AreMeasured (rings ++ own ∷ []) (marks ++ true ∷ []) (minus ++ m) (plus ++ p)
 one_more rings marks minus plus m p own so_far one = record {
   marked = more_marked rings marks own true so_far.marked;
-  minus_are = all_join IsEdge minus m so_far.minus_are one.minus_are;
-  plus_are = all_join IsEdge plus p so_far.plus_are one.plus_are;
   inside = λ place here. omega (
     arith,
     so_far.inside place here,
@@ -125,15 +93,13 @@ one_more rings marks minus plus m p own so_far one = record {
   );
 }
 
-pub none_more : (rings : List Ring) (marks : List Bool) (minus plus : List Edge) (own : Ring) → AreMeasured rings marks minus plus
+pub none_more : (rings : List Ring) (marks : List Bool) (minus plus : List EdgeOf) (own : Ring) → AreMeasured rings marks minus plus
     → AreMeasured (rings ++ own ∷ []) (marks ++ false ∷ []) minus plus
 none_more rings marks minus plus own so_far = record {
   marked = more_marked rings marks own false so_far.marked;
-  minus_are = so_far.minus_are;
-  plus_are = so_far.plus_are;
   inside = λ place here. omega (arith, so_far.inside place here, sum_more (λ ring. cond (odd ring place) 1 0) rings marks own false so_far.marked);
   crossed = λ place here. omega (arith, so_far.crossed place here, sum_more (λ ring. crossings ring place) rings marks own false so_far.marked);
 }
 
 pub none_yet : AreMeasured [] [] [] []
-none_yet = record { marked = refl; minus_are = tt; plus_are = tt; inside = λ place here. refl; crossed = λ place here. refl }
+none_yet = record { marked = refl; inside = λ place here. refl; crossed = λ place here. refl }

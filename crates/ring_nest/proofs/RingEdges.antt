@@ -8,7 +8,7 @@ use Rattle.lanes_geo.proofs.Crossed.{crosses_is, differ}
 use Rattle.lanes_geo.specs.Crossing.{Segment, crosses, crossings, segments_from}
 use Rattle.lanes_geo.specs.Grid.{IsPlace, apart, east_of, north_of}
 use Rattle.osm_base.specs.values.Place.{PlaceOf}
-use Rattle.ring_nest.specs.declared.edges.Edge.{Edge}
+use Rattle.ring_nest.specs.Edge.{EdgeOf}
 use Rattle.ring_nest.specs.Edges.{edge_between, falling, falling_from, passes, rising, rising_from}
 use Rattle.ring_nest.specs.Nesting.{Ring}
 
@@ -97,9 +97,9 @@ segment_is place p q here one other =
       ]
     ]
 
-pick : (P : Edge → Bool) (edge : Edge) (edges : List Edge) (b : Bool)
+pick : (P : EdgeOf → Bool) (edge : EdgeOf) (edges : List EdgeOf) (b : Bool)
     → count_by P (if b then edge ∷ edges else edges) ≡ cond b (cond {A = ℕ} (P edge) 1 0) 0 + count_by P edges
-pick P edge edges true = sum_by-cons (λ (own : Edge). cond {A = ℕ} (P own) 1 0) edge edges
+pick P edge edges true = sum_by-cons (λ (own : EdgeOf). cond {A = ℕ} (P own) 1 0) edge edges
 pick P edge edges false = omega arith
 
 crossed_from : (place p : PlaceOf) (ps : List PlaceOf) → IsPlace place → IsPlace p → AllByRecursion IsPlace ps

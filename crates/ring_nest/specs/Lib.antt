@@ -2,6 +2,7 @@ pub mod Nesting
 pub mod Polygons
 pub mod Around
 pub mod Holders
+pub mod Edge
 pub mod Edges
 pub mod Slabs
 pub mod Opening

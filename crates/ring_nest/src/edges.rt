@@ -1,16 +1,9 @@
 //! Edges of rings, by natural numbers.
 ghost use Rattle.std.specs.Prelude.{◌≡◌, ◌<◌, ◌≤◌, max, min, true, length};
 ghost use Rattle.std.specs.List.{AllByRecursion};
-ghost use Rattle.ring_nest.specs.Edges.{AreWest, IsEdge, IsWest, IsWestAt, edge_share, own_share, passes, spans as spans_slab, straddles};
+ghost use Rattle.ring_nest.specs.Edges.{AreWest, IsWest, IsWestAt, edge_share, own_share, passes, spans as spans_slab, straddles};
 
-/// An edge of a ring from its south end to its north end: how far north of the pole and east of the antimeridian these are.
-#[derive(Clone, Copy)]
-pub(crate) struct Edge {
-    pub(crate) low: u32,
-    pub(crate) high: u32,
-    pub(crate) at_low: u32,
-    pub(crate) at_high: u32,
-}
+use crate::edge::Edge;
 
 /// Whether an edge has a latitude, its north end left out.
 #[inline(always)]
@@ -23,7 +16,6 @@ fn straddles(north: u32, edge: &Edge) -> bool
 /// A place's share of the two products whose order says on which side of an edge it is.
 #[inline(always)]
 fn own_share(east: u32, edge: &Edge) -> u64
-    requires edge { IsEdge edge.now }
     requires east { east ≤ 3600000000 }
     ensures { result ≡ own_share east edge.now }
 {
@@ -33,7 +25,6 @@ fn own_share(east: u32, edge: &Edge) -> u64
 /// The edge's share.
 #[inline(always)]
 fn edge_share(north: u32, edge: &Edge) -> u64
-    requires edge { IsEdge edge.now }
     requires from { edge.now.low ≤ north }
     requires to { north ≤ edge.now.high }
     ensures { result ≡ edge_share north edge.now }
@@ -45,7 +36,6 @@ fn edge_share(north: u32, edge: &Edge) -> u64
 /// Whether an edge passes a place strictly east of it.
 #[inline(always)]
 pub(crate) fn passes(north: u32, east: u32, edge: &Edge) -> bool
-    requires edge { IsEdge edge.now }
     requires east { east ≤ 3600000000 }
     ensures { result ≡ passes north east edge.now }
 {
@@ -54,8 +44,6 @@ pub(crate) fn passes(north: u32, east: u32, edge: &Edge) -> bool
 
 /// Whether the one edge is not east of the other at the south end of the latitudes that they have in common.
 fn is_west_below(one: &Edge, other: &Edge) -> bool
-    requires one { IsEdge one.now }
-    requires other { IsEdge other.now }
     requires common { one.now.low < other.now.high × other.now.low < one.now.high }
     ensures west { result ≡ true → IsWestAt (max one.now.low other.now.low) one.now other.now }
 {
@@ -68,8 +56,6 @@ fn is_west_below(one: &Edge, other: &Edge) -> bool
 
 /// Whether the one edge is not east of the other at the north end of the latitudes that they have in common.
 fn is_west_above(one: &Edge, other: &Edge) -> bool
-    requires one { IsEdge one.now }
-    requires other { IsEdge other.now }
     requires common { one.now.low < other.now.high × other.now.low < one.now.high }
     ensures west { result ≡ true → IsWestAt (min one.now.high other.now.high) one.now other.now }
 {
@@ -83,8 +69,6 @@ fn is_west_above(one: &Edge, other: &Edge) -> bool
 /// Whether whatever place the one edge passes on its east side the other one passes too: it is not east of that at either end of the
 /// latitudes that they have in common.
 pub(crate) fn is_west(one: &Edge, other: &Edge) -> bool
-    requires one { IsEdge one.now }
-    requires other { IsEdge other.now }
     requires common { one.now.low < other.now.high × other.now.low < one.now.high }
     ensures west { result ≡ true → IsWest one.now other.now }
 {

@@ -1,14 +1,12 @@
 //! What is known of many rings together: the edges of those that open, the latitudes of their places, and a tree of the others.
 ghost use Rattle.std.specs.Prelude.{◌≡◌, ◌+◌, length, IfOk, IfSome};
-ghost use Rattle.std.specs.List.{AllByRecursion};
 ghost use Rattle.lanes_geo.specs.Grid.{IsPlace};
 ghost use Rattle.osm_base.specs.values.Place.{PlaceOf};
-ghost use Rattle.ring_nest.specs.Edges.{IsEdge};
 ghost use Rattle.ring_nest.specs.Opened.{count_at, crossings_in, odd_in};
 ghost use Rattle.ring_nest.specs.Told.{AreCounted, IsKnown, counted_at, unmarked as unmarked_numbers};
 
 use crate::boxed::BoxedRings;
-use crate::edges::Edge;
+use crate::edge::Edge;
 use crate::latitudes::latitudes_of;
 use crate::opened::{TOP, opened_of};
 use crate::slabs::{Slabs, are_quick, slabs_of};
@@ -43,7 +41,6 @@ fn unmarked(alloc: Global, marks: &[bool]) -> Result<Vec<usize>, OutOfMemory>
 
 /// Edges by slabs of all latitudes.
 fn by_slabs(alloc: Global, edges: Vec<Edge>) -> Result<Slabs, OutOfMemory>
-    requires edges { AllByRecursion IsEdge edges.items }
     ensures are { IfOk result AreCounted }
     ensures counted { IfOk result (λ slabs. (place : PlaceOf) → IsPlace place → counted_at place slabs ≡ count_at place edges.items) }
 {

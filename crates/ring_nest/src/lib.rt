@@ -23,6 +23,7 @@ mod asked;
 mod boxed;
 mod boxes;
 mod deep;
+mod edge;
 mod edges;
 mod holders;
 mod known;

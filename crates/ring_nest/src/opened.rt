@@ -6,7 +6,7 @@ ghost use Rattle.ring_nest.specs.Around.{IsBoxed};
 ghost use Rattle.ring_nest.specs.Nesting.{Ring};
 ghost use Rattle.ring_nest.specs.Opened.{AreMeasured, IsMeasured};
 
-use crate::edges::Edge;
+use crate::edge::Edge;
 use crate::opening::opens_in;
 use crate::ring_edges::{falling, rising};
 use osm_base::{OutOfMemory, Place, Places};

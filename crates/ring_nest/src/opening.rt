@@ -1,10 +1,11 @@
 //! Rings that any half line enters as often as it leaves them, or once more.
 ghost use Rattle.std.specs.Prelude.{◌≡◌, ◌<◌, ◌+◌, true, IfOk};
 ghost use Rattle.std.specs.List.{AllByRecursion, filter};
-ghost use Rattle.ring_nest.specs.Edges.{IsEdge, Spans};
+ghost use Rattle.ring_nest.specs.Edges.{Spans};
 ghost use Rattle.ring_nest.specs.Opening.{OpensIn, overlaps as overlaps_slab, woven};
 
-use crate::edges::{Edge, spans};
+use crate::edge::Edge;
+use crate::edges::spans;
 use crate::row::{are_west, row_of};
 use crate::slabs::middle_of;
 use osm_base::OutOfMemory;
@@ -33,7 +34,6 @@ fn weave(alloc: Global, minus: &[Edge], plus: &[Edge]) -> Result<Vec<Edge>, OutO
 
 /// Whether all edges go over a slab.
 fn all_span(low: u32, high: u32, edges: &[Edge]) -> bool
-    requires { AllByRecursion IsEdge edges.now }
     ensures { result ≡ true → AllByRecursion (Spans low high) edges.now }
 {
     let mut rest = edges;
@@ -100,8 +100,6 @@ fn middle_of_both(
 
 /// Whether all edges of both sides go over a slab.
 fn both_span(low: u32, high: u32, minus: &[Edge], plus: &[Edge]) -> bool
-    requires minus { AllByRecursion IsEdge minus.now }
-    requires plus { AllByRecursion IsEdge plus.now }
     ensures minus { result ≡ true → AllByRecursion (Spans low high) minus.now }
     ensures plus { result ≡ true → AllByRecursion (Spans low high) plus.now }
 {
@@ -119,8 +117,6 @@ pub(crate) fn opens_in(
     left: &mut usize,
 ) -> Result<bool, OutOfMemory>
     requires slab { low < high }
-    requires minus { AllByRecursion IsEdge minus.now }
-    requires plus { AllByRecursion IsEdge plus.now }
     ensures opens { IfOk result (λ yes. yes ≡ true → OpensIn low high minus.now plus.now) }
 {
     let some = minus.len().saturating_add(plus.len());

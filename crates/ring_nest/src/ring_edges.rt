@@ -1,16 +1,17 @@
 //! The edges of a ring.
-ghost use Rattle.std.specs.Prelude.{◌≡◌, ◌++◌, IfOk};
+ghost use Rattle.std.specs.Prelude.{◌≡◌, ◌<◌, ◌≤◌, ◌++◌, IfOk};
 ghost use Rattle.lanes_geo.specs.Grid.{east_of as east_of_place, north_of as north_of_place};
 ghost use Rattle.ring_nest.specs.Edges.{edge_between as edge_between_places, falling as falling_edges, rising as rising_edges};
 
-use crate::edges::Edge;
+use crate::edge::Edge;
 use osm_base::{MAX_LAT, MAX_LON, OutOfMemory, Place};
 use std::alloc::Global;
 
 /// How far north of the south pole a place is.
 #[inline(always)]
 pub(crate) fn north_of(place: Place) -> u32
-    ensures { result ≡ north_of_place place }
+    ensures place { result ≡ north_of_place place }
+    ensures fits { result ≤ 1800000000 }
 {
     (i64::from(place.lat) + i64::from(MAX_LAT)) as u32
 }
@@ -18,7 +19,8 @@ pub(crate) fn north_of(place: Place) -> u32
 /// How far east of the antimeridian a place is.
 #[inline(always)]
 pub(crate) fn east_of(place: Place) -> u32
-    ensures { result ≡ east_of_place place }
+    ensures place { result ≡ east_of_place place }
+    ensures fits { result ≤ 3600000000 }
 {
     (i64::from(place.lon) + i64::from(MAX_LON)) as u32
 }
@@ -26,6 +28,7 @@ pub(crate) fn east_of(place: Place) -> u32
 /// The edge of a ring between two places, the first of which is south of the second.
 #[inline(always)]
 fn edge_between(south: Place, north: Place) -> Edge
+    requires { north_of_place south < north_of_place north }
     ensures { result ≡ edge_between_places south north }
 {
     Edge {

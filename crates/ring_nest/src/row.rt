@@ -1,9 +1,10 @@
 //! Edges that go over a slab of latitudes, and how many of them pass a place on its east side.
 ghost use Rattle.std.specs.Prelude.{◌≡◌, ◌<◌, ◌≤◌, ◌∷◌, true, length, count_by, ℕ};
 ghost use Rattle.std.specs.List.{AllByRecursion};
-ghost use Rattle.ring_nest.specs.Edges.{AreWest, IsEdge, IsRow, Spans, passes as passes_place};
+ghost use Rattle.ring_nest.specs.Edges.{AreWest, IsRow, Spans, passes as passes_place};
 
-use crate::edges::{Edge, halfway, is_west, passes};
+use crate::edge::Edge;
+use crate::edges::{halfway, is_west, passes};
 use std::cmp::OrderedFloat;
 
 /// Edges that all go over a slab of latitudes.
@@ -66,7 +67,6 @@ fn count_ordered(low: u32, high: u32, edges: &[Edge], north: u32, east: u32) -> 
 
 /// How many edges pass a place strictly east of it.
 pub(crate) fn count_each(edges: &[Edge], north: u32, east: u32) -> usize
-    requires edges { AllByRecursion IsEdge edges.now }
     requires east { east ≤ 3600000000 }
     ensures count { result ≡ count_by (passes_place north east) edges.now }
 {

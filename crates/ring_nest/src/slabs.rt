@@ -1,10 +1,10 @@
 //! Edges by slabs of latitudes: how many of them pass a place is found by few steps, however many there are.
 ghost use Rattle.std.specs.Prelude.{◌≡◌, ◌<◌, ◌≤◌, ◌+◌, IfOk};
-ghost use Rattle.std.specs.List.{AllByRecursion, filter};
-ghost use Rattle.ring_nest.specs.Edges.{IsEdge};
+ghost use Rattle.std.specs.List.{filter};
 ghost use Rattle.ring_nest.specs.Slabs.{AreSlabs, Counts, count_in, is_across, is_north, is_south};
 
-use crate::edges::{Edge, spans};
+use crate::edge::Edge;
+use crate::edges::spans;
 use crate::row::{Row, count_each, row_of};
 use osm_base::OutOfMemory;
 use std::alloc::Global;
@@ -138,7 +138,6 @@ pub(crate) fn slabs_of(
     mut edges: Vec<Edge>,
 ) -> Result<Slabs, OutOfMemory>
     requires slab { low < high }
-    requires edges { AllByRecursion IsEdge edges.items }
     ensures slabs { IfOk result (AreSlabs low high) }
     ensures counts { IfOk result (Counts low high edges.items) }
 {

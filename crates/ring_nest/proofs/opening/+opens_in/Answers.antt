@@ -1,34 +1,12 @@
 use Rattle.std.proofs.Common.{refl, arith}
-use Rattle.ring_nest.specs.Opening.{overlaps}
-use Rattle.ring_nest.proofs.Halved.{all_kept}
 use Rattle.ring_nest.proofs.Woven.{opens_halves}
 use Rattle.ring_nest.proofs.opening.+opens_in.Goals as goal
 
 pub opens_in-requires : goal.opens_in-requires
-opens_in-requires t c =
-    let within = c.in_ok-middle.ensures.within in (
-      omega (arith, within),
-      (
-        within.0,
-        (
-          rw (c.deref.ensures.value, c.in_ok-south_minus.ensures) (all_kept (overlaps c.args.low c.in_ok-middle.middle) c.args.minus.now c.requires.minus),
-          rw (c.deref-2.ensures.value, c.in_ok-south_plus.ensures) (all_kept (overlaps c.args.low c.in_ok-middle.middle) c.args.plus.now c.requires.plus),
-        ),
-      ),
-    )
+opens_in-requires t c = let within = c.in_ok-middle.ensures.within in (omega (arith, within), within.0)
 
 pub opens_in-requires-2 : goal.opens_in-requires-2
-opens_in-requires-2 t c =
-    let within = c.in_ok-middle.ensures.within in (
-      omega (arith, within),
-      (
-        within.1,
-        (
-          rw (c.deref-3.ensures.value, c.in_ok-north_minus.ensures) (all_kept (overlaps c.in_ok-middle.middle c.args.high) c.args.minus.now c.requires.minus),
-          rw (c.deref-4.ensures.value, c.in_ok-north_plus.ensures) (all_kept (overlaps c.in_ok-middle.middle c.args.high) c.args.plus.now c.requires.plus),
-        ),
-      ),
-    )
+opens_in-requires-2 t c = let within = c.in_ok-middle.ensures.within in (omega (arith, within), within.1)
 
 pub returns : goal.returns
 returns t c = record {

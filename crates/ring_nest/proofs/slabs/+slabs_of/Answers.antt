@@ -1,12 +1,12 @@
 use Rattle.std.proofs.Common.{◌∙◌, inl, inr, nat_lt, arith}
 use Rattle.std.proofs.lemmas.Bool.{cases_lt}
-use Rattle.ring_nest.specs.Slabs.{count_in, is_north, is_south}
-use Rattle.ring_nest.proofs.Halved.{all_across, all_kept, nothing_more, north_counts, south_counts, thin_counts}
+use Rattle.ring_nest.specs.Slabs.{count_in}
+use Rattle.ring_nest.proofs.Halved.{all_across, nothing_more, north_counts, south_counts, thin_counts}
 use Rattle.ring_nest.proofs.slabs.+slabs_of.Goals as goal
 
 pub row_of-row-requires-clause-edges : goal.row_of-row-requires-clause-edges
 row_of-row-requires-clause-edges t c =
-    rw (c.in_ok-across.ensures.edges, c.deref.ensures.value) (all_across c.args.low c.args.high c.args.edges.items c.requires.edges)
+    rw (c.in_ok-across.ensures.edges, c.deref.ensures.value) (all_across c.args.low c.args.high c.args.edges.items)
 
 pub returns-then-high-low-lt2-clause-counts : goal.returns-then-high-low-lt2-clause-counts
 returns-then-high-low-lt2-clause-counts t c north east from to =
@@ -17,25 +17,11 @@ returns-then-high-low-lt2-clause-counts t c north east from to =
 
 pub slabs_of-requires : goal.slabs_of-requires
 slabs_of-requires t c =
-    let within = c.in_ok-middle.ensures.within in (
-      omega (arith, within),
-      (
-        within.0,
-        rw (c.in_ok-south.ensures.edges, c.deref-3.ensures.value)
-            (all_kept (is_south c.args.low c.in_ok-middle.middle c.args.high) c.args.edges.items c.requires.edges),
-      ),
-    )
+    let within = c.in_ok-middle.ensures.within in (omega (arith, within), within.0)
 
 pub slabs_of-requires-2 : goal.slabs_of-requires-2
 slabs_of-requires-2 t c =
-    let within = c.in_ok-middle.ensures.within in (
-      omega (arith, within),
-      (
-        within.1,
-        rw (c.in_ok-north.ensures.edges, c.deref-4.ensures.value)
-            (all_kept (is_north c.args.low c.in_ok-middle.middle c.args.high) c.args.edges.items c.requires.edges),
-      ),
-    )
+    let within = c.in_ok-middle.ensures.within in (omega (arith, within), within.1)
 
 pub returns-clause-counts : goal.returns-clause-counts
 returns-clause-counts t c north east from to =
