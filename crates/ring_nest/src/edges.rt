@@ -4,6 +4,7 @@ ghost use Rattle.std.specs.List.{AllByRecursion};
 ghost use Rattle.ring_nest.specs.Edges.{AreWest, IsWest, IsWestAt, edge_share, own_share, passes, spans as spans_slab, straddles};
 
 use crate::edge::Edge;
+use crate::spot::Spot;
 
 /// Whether an edge has a latitude, its north end left out.
 #[inline(always)]
@@ -35,11 +36,10 @@ fn edge_share(north: u32, edge: &Edge) -> u64
 
 /// Whether an edge passes a place strictly east of it.
 #[inline(always)]
-pub(crate) fn passes(north: u32, east: u32, edge: &Edge) -> bool
-    requires east { east ≤ 3600000000 }
-    ensures { result ≡ passes north east edge.now }
+pub(crate) fn passes(spot: Spot, edge: &Edge) -> bool
+    ensures { result ≡ passes spot.north spot.east edge.now }
 {
-    straddles(north, edge) && own_share(east, edge) < edge_share(north, edge)
+    straddles(spot.north, edge) && own_share(spot.east, edge) < edge_share(spot.north, edge)
 }
 
 /// Whether the one edge is not east of the other at the south end of the latitudes that they have in common.

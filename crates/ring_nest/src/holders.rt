@@ -181,11 +181,7 @@ fn depth_at(
 }
 
 /// The depth of each ring.
-fn depths_of(
-    alloc: Global,
-    known: &Known,
-    tree: &RingTree,
-) -> Result<Vec<usize>, OutOfMemory>
+fn depths_of(alloc: Global, known: &Known, tree: &RingTree) -> Result<Vec<usize>, OutOfMemory>
     requires known { IsKnown tree.now.rings.now known.now }
     ensures { IfOk result (λ depths. depths.items ≡ map (depth_of_ring tree.now.rings.now) tree.now.rings.now) }
 {

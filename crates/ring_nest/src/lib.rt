@@ -38,6 +38,7 @@ mod rings;
 mod row;
 mod segment;
 mod slabs;
+mod spot;
 mod told;
 mod tree;
 

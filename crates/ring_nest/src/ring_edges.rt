@@ -1,6 +1,6 @@
 //! The edges of a ring.
 ghost use Rattle.std.specs.Prelude.{◌≡◌, ◌<◌, ◌≤◌, ◌++◌, IfOk};
-ghost use Rattle.lanes_geo.specs.Grid.{east_of as east_of_place, north_of as north_of_place};
+ghost use Rattle.lanes_geo.specs.Grid.{IsPlace, east_of as east_of_place, north_of as north_of_place};
 ghost use Rattle.ring_nest.specs.Edges.{edge_between as edge_between_places, falling as falling_edges, rising as rising_edges};
 
 use crate::edge::Edge;
@@ -12,6 +12,7 @@ use std::alloc::Global;
 pub(crate) fn north_of(place: Place) -> u32
     ensures place { result ≡ north_of_place place }
     ensures fits { result ≤ 1800000000 }
+    ensures on_earth { IsPlace place }
 {
     (i64::from(place.lat) + i64::from(MAX_LAT)) as u32
 }

@@ -5,6 +5,7 @@ ghost use Rattle.ring_nest.specs.Edges.{AreWest, IsRow, Spans, passes as passes_
 
 use crate::edge::Edge;
 use crate::edges::{halfway, is_west, passes};
+use crate::spot::Spot;
 use std::cmp::OrderedFloat;
 
 /// Edges that all go over a slab of latitudes.
@@ -45,18 +46,17 @@ pub(crate) fn are_west(low: u32, high: u32, edges: &[Edge]) -> bool
 }
 
 /// How many edges pass a place of their slab strictly east of it, where they stand from west to east: those behind the last that does not.
-fn count_ordered(low: u32, high: u32, edges: &[Edge], north: u32, east: u32) -> usize
+fn count_ordered(low: u32, high: u32, edges: &[Edge], spot: Spot) -> usize
     requires edges { AllByRecursion (Spans low high) edges.now }
     requires west { AreWest edges.now }
-    requires north { low ≤ north × north < high }
-    requires east { east ≤ 3600000000 }
-    ensures count { result ≡ count_by (passes_place north east) edges.now }
+    requires north { low ≤ spot.north × spot.north < high }
+    ensures count { result ≡ count_by (passes_place spot.north spot.east) edges.now }
 {
     let mut first = 0;
     let mut last = edges.len();
     while first < last {
         let middle = first + (last - first) / 2;
-        if passes(north, east, &edges[middle]) {
+        if passes(spot, &edges[middle]) {
             last = middle;
         } else {
             first = middle + 1;
@@ -66,13 +66,12 @@ fn count_ordered(low: u32, high: u32, edges: &[Edge], north: u32, east: u32) -> 
 }
 
 /// How many edges pass a place strictly east of it.
-pub(crate) fn count_each(edges: &[Edge], north: u32, east: u32) -> usize
-    requires east { east ≤ 3600000000 }
-    ensures count { result ≡ count_by (passes_place north east) edges.now }
+pub(crate) fn count_each(edges: &[Edge], spot: Spot) -> usize
+    ensures count { result ≡ count_by (passes_place spot.north spot.east) edges.now }
 {
     let mut count = 0;
     for edge in edges {
-        if passes(north, east, edge) {
+        if passes(spot, edge) {
             count += 1;
         }
     }
@@ -95,16 +94,15 @@ pub(crate) fn row_of(low: u32, high: u32, edges: Vec<Edge>) -> Row
 
 impl Row {
     /// How many of its edges pass a place of its slab strictly east of it.
-    pub(crate) fn count(&self, low: u32, high: u32, north: u32, east: u32) -> usize
+    pub(crate) fn count(&self, low: u32, high: u32, spot: Spot) -> usize
         requires row { IsRow low high self.now }
-        requires north { low ≤ north × north < high }
-        requires east { east ≤ 3600000000 }
-        ensures count { result ≡ count_by (passes_place north east) self.now.edges.items }
+        requires north { low ≤ spot.north × spot.north < high }
+        ensures count { result ≡ count_by (passes_place spot.north spot.east) self.now.edges.items }
     {
         if self.is_ordered {
-            count_ordered(low, high, &self.edges, north, east)
+            count_ordered(low, high, &self.edges, spot)
         } else {
-            count_each(&self.edges, north, east)
+            count_each(&self.edges, spot)
         }
     }
 

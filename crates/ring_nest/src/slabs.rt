@@ -6,6 +6,7 @@ ghost use Rattle.ring_nest.specs.Slabs.{AreSlabs, Counts, count_in, is_across, i
 use crate::edge::Edge;
 use crate::edges::spans;
 use crate::row::{Row, count_each, row_of};
+use crate::spot::Spot;
 use osm_base::OutOfMemory;
 use std::alloc::Global;
 
@@ -25,21 +26,20 @@ pub(crate) enum Slabs {
 }
 
 /// How many edges pass a place strictly east of it.
-pub(crate) fn count(slabs: &Slabs, low: u32, high: u32, north: u32, east: u32) -> u64
+pub(crate) fn count(slabs: &Slabs, low: u32, high: u32, spot: Spot) -> u64
     requires slabs { AreSlabs low high slabs.now }
-    requires north { low ≤ north × north < high }
-    requires east { east ≤ 3600000000 }
-    requires few { count_in slabs.now north east < 18446744073709551616 }
-    ensures count { result ≡ count_in slabs.now north east }
+    requires north { low ≤ spot.north × spot.north < high }
+    requires few { count_in slabs.now spot.north spot.east < 18446744073709551616 }
+    ensures count { result ≡ count_in slabs.now spot.north spot.east }
 {
     match slabs {
-        Slabs::Few(edges) => count_each(edges, north, east) as u64,
+        Slabs::Few(edges) => count_each(edges, spot) as u64,
         Slabs::Slab(row, middle, south, upper) => {
-            let here = row.count(low, high, north, east) as u64;
-            if north < *middle {
-                here + count(south, low, *middle, north, east)
+            let here = row.count(low, high, spot) as u64;
+            if spot.north < *middle {
+                here + count(south, low, *middle, spot)
             } else {
-                here + count(upper, *middle, high, north, east)
+                here + count(upper, *middle, high, spot)
             }
         }
     }

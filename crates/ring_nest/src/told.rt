@@ -10,9 +10,10 @@ use crate::asked::Asked;
 use crate::boxes::start_of;
 use crate::latitudes::{count_latitude, places_at};
 use crate::opened::TOP;
-use crate::ring_edges::{east_of, north_of};
+use crate::ring_edges::north_of;
 use crate::rings::crosses_odd;
 use crate::slabs::{Slabs, count};
+use crate::spot::Spot;
 use crate::tree::{LEAF, add_holders};
 use lanes_geo::crossings_of;
 use osm_base::{MAX_LON, OutOfMemory, Place};
@@ -21,15 +22,13 @@ use std::alloc::Global;
 /// How many edges pass a place strictly east of it.
 fn count_at(slabs: &Slabs, place: Place) -> u64
     requires slabs { AreCounted slabs.now }
-    requires place { IsPlace place }
     ensures { result ≡ counted_at place slabs.now }
 {
-    count(slabs, 0, TOP, north_of(place), east_of(place))
+    count(slabs, 0, TOP, Spot::of(place))
 }
 
 /// How often the marked rings are crossed east of a place. None where that is no number of 64 bits.
 fn crossed_at(asked: &Asked, place: Place) -> Option<u64>
-    requires place { IsPlace place }
     ensures { IfSome result (λ crossed. crossed ≡ crossings_in place asked.now.rings.now asked.now.known.now.marks.items) }
 {
     count_at(&asked.known.plus, place).checked_add(count_at(&asked.known.minus, place))
@@ -37,7 +36,6 @@ fn crossed_at(asked: &Asked, place: Place) -> Option<u64>
 
 /// How many marked rings have a place within them.
 fn inside_at(asked: &Asked, place: Place) -> u64
-    requires place { IsPlace place }
     ensures { result ≡ odd_in place asked.now.rings.now asked.now.known.now.marks.items }
 {
     count_at(&asked.known.plus, place) - count_at(&asked.known.minus, place)
@@ -45,7 +43,6 @@ fn inside_at(asked: &Asked, place: Place) -> u64
 
 /// The place next to another one in the west. None where that lies on the antimeridian.
 fn westward(place: Place) -> Option<Place>
-    requires place { IsPlace place }
     ensures { IfSome result (λ west. (west ≡ place_westward place) × (IsPlace west × 1 ≤ east_of_place place)) }
 {
     if place.lon > -MAX_LON {
@@ -94,8 +91,7 @@ fn is_told(asked: &Asked, place: Place, west: Place) -> bool
     requires west { (west ≡ place_westward place) × IsPlace west }
     ensures { result ≡ true → Tells asked.now.rings.now asked.now.known.now.marks.items asked.now.number place }
 {
-    is_latitude_own(asked, north_of(place))
-        && is_near_own(asked, place, west)
+    is_latitude_own(asked, north_of(place)) && is_near_own(asked, place, west)
 }
 
 /// How many marked rings hold a ring. None where it is not told: where another one may go through the place where it begins.
