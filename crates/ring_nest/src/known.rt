@@ -5,6 +5,7 @@ ghost use Rattle.osm_base.specs.values.Place.{PlaceOf};
 ghost use Rattle.ring_nest.specs.Opened.{count_at, crossings_in, odd_in};
 ghost use Rattle.ring_nest.specs.Told.{AreCounted, IsKnown, counted_at, unmarked as unmarked_numbers};
 
+use crate::band::Band;
 use crate::boxed::BoxedRings;
 use crate::edge::Edge;
 use crate::latitudes::latitudes_of;
@@ -44,7 +45,7 @@ fn by_slabs(alloc: Global, edges: Vec<Edge>) -> Result<Slabs, OutOfMemory>
     ensures are { IfOk result AreCounted }
     ensures counted { IfOk result (λ slabs. (place : PlaceOf) → IsPlace place → counted_at place slabs ≡ count_at place edges.items) }
 {
-    let slabs = slabs_of(alloc, 0, TOP, edges)?;
+    let slabs = slabs_of(alloc, Band { low: 0, high: TOP }, edges)?;
     Ok(slabs)
 }
 

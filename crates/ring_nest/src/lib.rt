@@ -20,6 +20,7 @@
 #![tactic(auto)]
 
 mod asked;
+mod band;
 mod boxed;
 mod boxes;
 mod deep;

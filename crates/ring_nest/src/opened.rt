@@ -6,6 +6,7 @@ ghost use Rattle.ring_nest.specs.Around.{IsBoxed};
 ghost use Rattle.ring_nest.specs.Nesting.{Ring};
 ghost use Rattle.ring_nest.specs.Opened.{AreMeasured, IsMeasured};
 
+use crate::band::Band;
 use crate::edge::Edge;
 use crate::opening::opens_in;
 use crate::ring_edges::{falling, rising};
@@ -31,14 +32,15 @@ fn sides_of(alloc: Global, ring: &[Place]) -> Result<Option<(Vec<Edge>, Vec<Edge
     requires places { AllByRecursion IsPlace ring.now }
     ensures sides { IfOk result (λ sides. IfSome sides (λ (minus, plus). IsMeasured ring.now minus.items plus.items)) }
 {
+    let all = Band { low: 0, high: TOP };
     let up = rising(alloc, ring)?;
     let down = falling(alloc, ring)?;
     let mut left = ring.len().saturating_mul(LOOKS);
-    if opens_in(alloc, 0, TOP, &down, &up, &mut left)? {
+    if opens_in(alloc, all, &down, &up, &mut left)? {
         return Ok(Some((down, up)));
     }
     let mut left = ring.len().saturating_mul(LOOKS);
-    if opens_in(alloc, 0, TOP, &up, &down, &mut left)? {
+    if opens_in(alloc, all, &up, &down, &mut left)? {
         return Ok(Some((up, down)));
     }
     Ok(None)

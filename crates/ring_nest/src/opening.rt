@@ -4,6 +4,7 @@ ghost use Rattle.std.specs.List.{AllByRecursion, filter};
 ghost use Rattle.ring_nest.specs.Edges.{Spans};
 ghost use Rattle.ring_nest.specs.Opening.{OpensIn, overlaps as overlaps_slab, woven};
 
+use crate::band::Band;
 use crate::edge::Edge;
 use crate::edges::spans;
 use crate::row::{are_west, row_of};
@@ -62,23 +63,21 @@ fn overlapping(alloc: Global, low: u32, high: u32, edges: &[Edge]) -> Result<Vec
 /// Whether edges that go over a slab stand on the one side and on the other in turn, from west to east.
 fn open_across(
     alloc: Global,
-    low: u32,
-    high: u32,
+    band: Band,
     minus: &[Edge],
     plus: &[Edge],
 ) -> Result<bool, OutOfMemory>
-    requires slab { low < high }
-    requires minus { AllByRecursion (Spans low high) minus.now }
-    requires plus { AllByRecursion (Spans low high) plus.now }
-    ensures opens { IfOk result (λ yes. yes ≡ true → OpensIn low high minus.now plus.now) }
+    requires minus { AllByRecursion (Spans band.low band.high) minus.now }
+    requires plus { AllByRecursion (Spans band.low band.high) plus.now }
+    ensures opens { IfOk result (λ yes. yes ≡ true → OpensIn band.low band.high minus.now plus.now) }
 {
     if minus.len() != plus.len() {
         return Ok(false);
     }
-    let minus = row_of(low, high, Vec::from_slice(alloc, minus)?);
-    let plus = row_of(low, high, Vec::from_slice(alloc, plus)?);
+    let minus = row_of(band, Vec::from_slice(alloc, minus)?);
+    let plus = row_of(band, Vec::from_slice(alloc, plus)?);
     let edges = weave(alloc, &minus.edges, &plus.edges)?;
-    Ok(are_west(low, high, &edges))
+    Ok(are_west(band, &edges))
 }
 
 /// The latitude at which a slab is halved.
@@ -110,21 +109,21 @@ fn both_span(low: u32, high: u32, minus: &[Edge], plus: &[Edge]) -> bool
 /// would take more looks at edges than `left`.
 pub(crate) fn opens_in(
     alloc: Global,
-    low: u32,
-    high: u32,
+    band: Band,
     minus: &[Edge],
     plus: &[Edge],
     left: &mut usize,
 ) -> Result<bool, OutOfMemory>
-    requires slab { low < high }
-    ensures opens { IfOk result (λ yes. yes ≡ true → OpensIn low high minus.now plus.now) }
+    ensures opens { IfOk result (λ yes. yes ≡ true → OpensIn band.low band.high minus.now plus.now) }
 {
+    let low = band.low;
+    let high = band.high;
     let some = minus.len().saturating_add(plus.len());
     if some == 0 {
         return Ok(true);
     }
     if both_span(low, high, minus, plus) {
-        return open_across(alloc, low, high, minus, plus);
+        return open_across(alloc, band, minus, plus);
     }
     if high - low < 2 || *left < some {
         return Ok(false);
@@ -133,11 +132,13 @@ pub(crate) fn opens_in(
     let middle = middle_of_both(alloc, low, high, minus, plus)?;
     let south_minus = overlapping(alloc, low, middle, minus)?;
     let south_plus = overlapping(alloc, low, middle, plus)?;
-    if !opens_in(alloc, low, middle, &south_minus, &south_plus, left)? {
+    let south = Band { low, high: middle };
+    if !opens_in(alloc, south, &south_minus, &south_plus, left)? {
         return Ok(false);
     }
     let north_minus = overlapping(alloc, middle, high, minus)?;
     let north_plus = overlapping(alloc, middle, high, plus)?;
-    let opens = opens_in(alloc, middle, high, &north_minus, &north_plus, left)?;
+    let north = Band { low: middle, high };
+    let opens = opens_in(alloc, north, &north_minus, &north_plus, left)?;
     Ok(opens)
 }

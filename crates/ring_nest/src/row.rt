@@ -3,6 +3,7 @@ ghost use Rattle.std.specs.Prelude.{◌≡◌, ◌<◌, ◌≤◌, ◌∷◌, tr
 ghost use Rattle.std.specs.List.{AllByRecursion};
 ghost use Rattle.ring_nest.specs.Edges.{AreWest, IsRow, Spans, passes as passes_place};
 
+use crate::band::Band;
 use crate::edge::Edge;
 use crate::edges::{halfway, is_west, passes};
 use crate::spot::Spot;
@@ -17,10 +18,9 @@ pub(crate) struct Row {
 }
 
 /// Whether an edge is west of the first of those behind it.
-fn is_west_of_next(low: u32, high: u32, edge: &Edge, behind: &[Edge]) -> bool
-    requires slab { low < high }
-    requires edge { Spans low high edge.now }
-    requires behind { AllByRecursion (Spans low high) behind.now }
+fn is_west_of_next(band: Band, edge: &Edge, behind: &[Edge]) -> bool
+    requires edge { Spans band.low band.high edge.now }
+    requires behind { AllByRecursion (Spans band.low band.high) behind.now }
     ensures west { result ≡ true → AreWest behind.now → AreWest (edge.now ∷ behind.now) }
 {
     match behind {
@@ -30,14 +30,13 @@ fn is_west_of_next(low: u32, high: u32, edge: &Edge, behind: &[Edge]) -> bool
 }
 
 /// Whether the edges of a slab stand from west to east.
-pub(crate) fn are_west(low: u32, high: u32, edges: &[Edge]) -> bool
-    requires slab { low < high }
-    requires edges { AllByRecursion (Spans low high) edges.now }
+pub(crate) fn are_west(band: Band, edges: &[Edge]) -> bool
+    requires edges { AllByRecursion (Spans band.low band.high) edges.now }
     ensures west { result ≡ true → AreWest edges.now }
 {
     let mut rest = edges;
     while let [edge, behind @ ..] = rest {
-        if !is_west_of_next(low, high, edge, behind) {
+        if !is_west_of_next(band, edge, behind) {
             return false;
         }
         rest = behind;
@@ -79,16 +78,15 @@ pub(crate) fn count_each(edges: &[Edge], spot: Spot) -> usize
 }
 
 /// The row of edges that go over a slab.
-pub(crate) fn row_of(low: u32, high: u32, edges: Vec<Edge>) -> Row
-    requires slab { low < high }
-    requires edges { AllByRecursion (Spans low high) edges.items }
-    ensures row { IsRow low high result }
+pub(crate) fn row_of(band: Band, edges: Vec<Edge>) -> Row
+    requires edges { AllByRecursion (Spans band.low band.high) edges.items }
+    ensures row { IsRow band.low band.high result }
     ensures len { length result.edges.items ≡ length edges.items }
     ensures count { (north east : ℕ) → count_by (passes_place north east) result.edges.items ≡ count_by (passes_place north east) edges.items }
 {
     let mut edges = edges;
-    edges.sort_unstable_by_key(|edge: &Edge| OrderedFloat(halfway(low, high, edge)));
-    let is_ordered = are_west(low, high, &edges);
+    edges.sort_unstable_by_key(|edge: &Edge| OrderedFloat(halfway(band.low, band.high, edge)));
+    let is_ordered = are_west(band, &edges);
     Row { edges, is_ordered }
 }
 

@@ -3,6 +3,7 @@ ghost use Rattle.std.specs.Prelude.{◌≡◌, ◌<◌, ◌≤◌, ◌+◌, IfOk
 ghost use Rattle.std.specs.List.{filter};
 ghost use Rattle.ring_nest.specs.Slabs.{AreSlabs, Counts, count_in, is_across, is_north, is_south};
 
+use crate::band::Band;
 use crate::edge::Edge;
 use crate::edges::spans;
 use crate::row::{Row, count_each, row_of};
@@ -133,19 +134,19 @@ pub(crate) fn middle_of(
 /// Edges by slabs, between two latitudes.
 pub(crate) fn slabs_of(
     alloc: Global,
-    low: u32,
-    high: u32,
+    band: Band,
     mut edges: Vec<Edge>,
 ) -> Result<Slabs, OutOfMemory>
-    requires slab { low < high }
-    ensures slabs { IfOk result (AreSlabs low high) }
-    ensures counts { IfOk result (Counts low high edges.items) }
+    ensures slabs { IfOk result (AreSlabs band.low band.high) }
+    ensures counts { IfOk result (Counts band.low band.high edges.items) }
 {
+    let low = band.low;
+    let high = band.high;
     if edges.len() <= FEW {
         edges.shrink_to_fit();
         return Ok(Slabs::Few(edges));
     }
-    let row = row_of(low, high, across(alloc, low, high, &edges)?);
+    let row = row_of(band, across(alloc, low, high, &edges)?);
     if high - low < 2 {
         return Ok(Slabs::Slab(
             row,
@@ -158,8 +159,8 @@ pub(crate) fn slabs_of(
     let south = south_of(alloc, low, middle, high, &edges)?;
     let north = north_of(alloc, low, middle, high, &edges)?;
     drop(edges);
-    let south = slabs_of(alloc, low, middle, south)?;
-    let north = slabs_of(alloc, middle, high, north)?;
+    let south = slabs_of(alloc, Band { low, high: middle }, south)?;
+    let north = slabs_of(alloc, Band { low: middle, high }, north)?;
     Ok(Slabs::Slab(
         row,
         middle,

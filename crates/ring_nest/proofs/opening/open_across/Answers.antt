@@ -4,11 +4,12 @@ use Rattle.ring_nest.specs.Opening.{woven}
 use Rattle.ring_nest.proofs.Woven.{as_opened, span_woven, turns}
 use Rattle.ring_nest.proofs.opening.open_across.Goals as goal
 
-pub are_west-requires-clause-edges : goal.are_west-requires-clause-edges
-are_west-requires-clause-edges c =
-    rw (c.deref-3.ensures.value, c.in_ok-edges.ensures, c.deref.ensures.value, c.deref-2.ensures.value)
-    (span_woven c.args.low c.args.high c.row_of-minus.result.edges.items c.row_of-plus.result.edges.items c.row_of-minus.ensures.row.spans
-    c.row_of-plus.ensures.row.spans)
+pub are_west-requires : goal.are_west-requires
+are_west-requires c = record {
+  edges = rw (c.deref-3.ensures.value, c.in_ok-edges.ensures, c.deref.ensures.value, c.deref-2.ensures.value)
+    (span_woven c.args.band.low c.args.band.high c.row_of-minus.result.edges.items c.row_of-plus.result.edges.items c.row_of-minus.ensures.row.spans
+    c.row_of-plus.ensures.row.spans);
+}
 
 pub returns : goal.returns
 returns c = record {
@@ -20,7 +21,7 @@ returns c = record {
       as_opened _ _ _ _
       (c.row_of-minus.ensures.count north east ∙ ap (count_by (passes north east)) c.in_ok-from_slice.ensures.items)
       (c.row_of-plus.ensures.count north east ∙ ap (count_by (passes north east)) c.in_ok-from_slice-2.ensures.items)
-      (turns c.args.low c.args.high north east minus plus
-      (span_woven c.args.low c.args.high minus plus c.row_of-minus.ensures.row.spans c.row_of-plus.ensures.row.spans) west from to
+      (turns c.args.band.low c.args.band.high north east minus plus
+      (span_woven c.args.band.low c.args.band.high minus plus c.row_of-minus.ensures.row.spans c.row_of-plus.ensures.row.spans) west from to
       (omega (arith, c.row_of-minus.ensures.len, c.row_of-plus.ensures.len, c.if-minus-plus.false, ap length c.in_ok-from_slice.ensures.items, ap length c.in_ok-from_slice-2.ensures.items)));
 }

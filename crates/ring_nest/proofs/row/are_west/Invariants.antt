@@ -6,7 +6,7 @@ use Rattle.ring_nest.proofs.row.are_west.Given as goal
 -- all edges stand in order where those that are left do
 abbrev pub invariant-loop-rest : goal.invariant-loop-rest
 invariant-loop-rest l = record {
-  spans : AllByRecursion (Spans l.low l.high) l.rest;
+  spans : AllByRecursion (Spans l.band.low l.band.high) l.rest;
   west : AreWest l.rest → AreWest l.edges;
 }
 

@@ -4,30 +4,31 @@ use Rattle.ring_nest.specs.Slabs.{count_in}
 use Rattle.ring_nest.proofs.Halved.{all_across, nothing_more, north_counts, south_counts, thin_counts}
 use Rattle.ring_nest.proofs.slabs.+slabs_of.Goals as goal
 
-pub row_of-row-requires-clause-edges : goal.row_of-row-requires-clause-edges
-row_of-row-requires-clause-edges t c =
-    rw (c.in_ok-across.ensures.edges, c.deref.ensures.value) (all_across c.args.low c.args.high c.args.edges.items)
+pub row_of-row-requires : goal.row_of-row-requires
+row_of-row-requires t c = record {
+  edges = rw (c.in_ok-across.ensures.edges, c.deref.ensures.value) (all_across c.args.band.low c.args.band.high c.args.edges.items);
+}
 
 pub returns-then-high-low-lt2-clause-counts : goal.returns-then-high-low-lt2-clause-counts
 returns-then-high-low-lt2-clause-counts t c north east from to =
     let whole = rw c.deref.ensures.value at c.in_ok-across.ensures.edges in
-    rw (c.in_ok-new.ensures.ok, c.new.ensures.items, c.in_ok-new-2.ensures.ok, c.new-then-high-low-lt2-2.ensures.items) (nothing_more (nat_lt north c.args.high) _
-    ∙ thin_counts c.args.low c.args.high north east c.args.edges.items c.row_of-row.result.edges.items c.in_ok-across.field-0.items
+    rw (c.in_ok-new.ensures.ok, c.new.ensures.items, c.in_ok-new-2.ensures.ok, c.new-then-high-low-lt2-2.ensures.items) (nothing_more (nat_lt north c.args.band.high) _
+    ∙ thin_counts c.args.band.low c.args.band.high north east c.args.edges.items c.row_of-row.result.edges.items c.in_ok-across.field-0.items
     (omega (arith, c.if-high-low-lt2.true)) from to (c.row_of-row.ensures.count north east) whole)
 
 pub slabs_of-requires : goal.slabs_of-requires
 slabs_of-requires t c =
-    let within = c.in_ok-middle.ensures.within in (omega (arith, within), within.0)
+    let within = c.in_ok-middle.ensures.within in omega (arith, within)
 
 pub slabs_of-requires-2 : goal.slabs_of-requires-2
 slabs_of-requires-2 t c =
-    let within = c.in_ok-middle.ensures.within in (omega (arith, within), within.1)
+    let within = c.in_ok-middle.ensures.within in omega (arith, within)
 
 pub returns-clause-counts : goal.returns-clause-counts
 returns-clause-counts t c north east from to =
-    let low = c.args.low in
+    let low = c.args.band.low in
     let middle = c.in_ok-middle.middle in
-    let high = c.args.high in
+    let high = c.args.band.high in
     let edges = c.args.edges.items in
     let whole = rw c.deref.ensures.value at c.in_ok-across.ensures.edges in
     let half = rw c.deref-3.ensures.value at c.in_ok-south.ensures.edges in
