@@ -1,7 +1,6 @@
 //! Edges of rings, by natural numbers.
-ghost use Rattle.std.specs.Prelude.{◌≡◌, ◌<◌, ◌≤◌, max, min, true, length};
-ghost use Rattle.std.specs.List.{AllByRecursion};
-ghost use Rattle.ring_nest.specs.Edges.{AreWest, IsWest, IsWestAt, edge_share, own_share, passes, spans as spans_slab, straddles};
+ghost use Rattle.std.specs.Prelude.{◌≡◌, ◌<◌, ◌≤◌, max, min, true};
+ghost use Rattle.ring_nest.specs.Edges.{IsWest, IsWestAt, edge_share, own_share, passes, spans as spans_slab, straddles};
 
 use crate::edge::Edge;
 use crate::spot::Spot;

@@ -1,5 +1,5 @@
 //! The edges of a ring.
-ghost use Rattle.std.specs.Prelude.{◌≡◌, ◌<◌, ◌≤◌, ◌++◌, IfOk};
+ghost use Rattle.std.specs.Prelude.{◌≡◌, ◌<◌, ◌≤◌, IfOk};
 ghost use Rattle.lanes_geo.specs.Grid.{IsPlace, east_of as east_of_place, north_of as north_of_place};
 ghost use Rattle.ring_nest.specs.Edges.{edge_between as edge_between_places, falling as falling_edges, rising as rising_edges};
 

@@ -7,8 +7,8 @@ use Rattle.ring_nest.proofs.opening.open_across.Goals as goal
 pub are_west-requires : goal.are_west-requires
 are_west-requires c = record {
   edges = rw (c.deref-3.ensures.value, c.in_ok-edges.ensures, c.deref.ensures.value, c.deref-2.ensures.value)
-    (span_woven c.args.band.low c.args.band.high c.row_of-minus.result.edges.items c.row_of-plus.result.edges.items c.row_of-minus.ensures.row.spans
-    c.row_of-plus.ensures.row.spans);
+      (span_woven c.args.band.low c.args.band.high c.row_of-minus.result.edges.items c.row_of-plus.result.edges.items c.row_of-minus.ensures.row.spans
+      c.row_of-plus.ensures.row.spans);
 }
 
 pub returns : goal.returns

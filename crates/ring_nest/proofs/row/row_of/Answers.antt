@@ -4,7 +4,7 @@ use Rattle.ring_nest.proofs.row.row_of.Goals as goal
 pub are_west-is_ordered-requires : goal.are_west-is_ordered-requires
 are_west-is_ordered-requires c = record {
   edges = rw c.deref.ensures.value (all_in_order c.args.band.low c.args.band.high c.args.edges.items c.sort_unstable_by_key.new.self.items
-    c.sort_unstable_by_key.ensures.permutation c.requires.edges);
+      c.sort_unstable_by_key.ensures.permutation c.requires.edges);
 }
 
 pub returns-clause-row : goal.returns-clause-row
