@@ -117,87 +117,96 @@ module _ (limits : LimitNumbers) where
       let wrong : ◌≡◌ {A = Result (List Entry) FileFault} (Ok (done.change ++ [])) (Err fault) = sym none ∙ sym (same []) ∙ certain [] in
       absurd (cc)
 
-  pub lots_none : (reader : LotReader) → reader.done ≡ record { passed = none_passed; change = [] } → reader.kept.items ≡ []
-      → (left : Option (List ℕ)) → HasLots limits reader left left
-  lots_none reader none empty None = tt
-  lots_none reader none empty (Some bytes) = record {
+  pub lots_none : (done : Part) (kept : List ℕ) → done ≡ record { passed = none_passed; change = [] } → kept ≡ []
+      → (left : Option (List ℕ)) → HasLots limits done kept left left
+  lots_none done kept none empty None = tt
+  lots_none done kept none empty (Some bytes) = record {
     front = [];
     parts = ap (λ own. own ++ bytes) (sym empty);
     same = λ rest. sym (entries_of-start limits none_passed rest refl) ∙ in_front_none (entries_from limits none_passed (lines_of rest))
-        ∙ ap (λ done. comes_to limits done rest) (sym none);
+        ∙ ap (λ own. comes_to limits own rest) (sym none);
   }
 
-  pub lots_stop : (reader : LotReader) (most : ℕ) (start left : Option (List ℕ)) → HasLots limits reader start left
-      → length reader.kept.items ≤ most → ReadsNoFurtherThan most limits start left
-  lots_stop reader most None left has few = tt
-  lots_stop reader most (Some all) None has few = has
-  lots_stop reader most (Some all) (Some bytes) has few = record {
+  pub lots_stop : (done : Part) (kept : List ℕ) (most : ℕ) (start left : Option (List ℕ)) → HasLots limits done kept start left
+      → length kept ≤ most → ReadsNoFurtherThan most limits start left
+  lots_stop done kept most None left has few = tt
+  lots_stop done kept most (Some all) None has few = has
+  lots_stop done kept most (Some all) (Some bytes) has few = record {
     before = has.front;
-    last = reader.kept.items;
+    last = kept;
     parts = has.parts;
-    undecided = open_front reader.done has.front has.same;
+    undecided = open_front done has.front has.same;
     few = few;
   }
 
-  pub fill_stop : (reader : LotReader) (most : ℕ) (start left rest : Option (List ℕ)) → HasLots limits reader start left
-      → ReadsBehind most reader.kept.items left rest → ReadsNoFurtherThan most limits start rest
-  fill_stop reader most None left rest has read = tt
-  fill_stop reader most (Some all) None rest has read = absurd has
-  fill_stop reader most (Some all) (Some bytes) None has read = read
-  fill_stop reader most (Some all) (Some bytes) (Some later) has read = record {
+  -- more is read behind a lot that waits
+
+  pub fill_stop : (done : Part) (before kept : List ℕ) (most each : ℕ) (start left rest : Option (List ℕ))
+      → HasLots limits done (before ++ kept) start left → ReadsBehind each kept left rest → length before + each ≤ most
+      → ReadsNoFurtherThan most limits start rest
+  fill_stop done before kept most each None left rest has read few = tt
+  fill_stop done before kept most each (Some all) None rest has read few = absurd has
+  fill_stop done before kept most each (Some all) (Some bytes) None has read few = read
+  fill_stop done before kept most each (Some all) (Some bytes) (Some later) has read few = record {
     before = has.front;
-    last = read.0;
-    parts = has.parts ∙ ap (λ own. has.front ++ own) read.1;
-    undecided = open_front reader.done has.front has.same;
-    few = read.2;
+    last = before ++ read.0;
+    parts = has.parts ∙ ap (λ own. has.front ++ own) (append_assoc before kept bytes ∙ ap (λ own. before ++ own) read.1
+        ∙ sym (append_assoc before read.0 later));
+    undecided = open_front done has.front has.same;
+    few = omega (arith, few, read.2, length-append before read.0);
   }
 
-  filled_lines : (old new : LotReader) (more : Bool) (start left rest : Option (List ℕ)) → HasLots limits old start left
-      → MovesBytes old.kept.items new.kept.items more left rest → new.done ≡ old.done → HasLots limits new start rest
-  filled_lines old new more None left rest has moves same = tt
-  filled_lines old new more (Some all) None rest has moves same = absurd has
-  filled_lines old new more (Some all) (Some bytes) None has moves same = moves
-  filled_lines old new more (Some all) (Some bytes) (Some later) has moves same = record {
+  filled_lines : (done : Part) (before old new : List ℕ) (more : Bool) (start left rest : Option (List ℕ))
+      → HasLots limits done (before ++ old) start left → MovesBytes old new more left rest → HasLots limits done (before ++ new) start rest
+  filled_lines done before old new more None left rest has moves = tt
+  filled_lines done before old new more (Some all) None rest has moves = absurd has
+  filled_lines done before old new more (Some all) (Some bytes) None has moves = moves
+  filled_lines done before old new more (Some all) (Some bytes) (Some later) has moves = record {
     front = has.front;
-    parts = has.parts ∙ ap (λ own. has.front ++ own) moves.0;
-    same = λ more. has.same more ∙ ap (λ done. comes_to limits done more) (sym same);
+    parts = has.parts ∙ ap (λ own. has.front ++ own) (append_assoc before old bytes ∙ ap (λ own. before ++ own) moves.0
+        ∙ sym (append_assoc before new later));
+    same = has.same;
   }
 
-  filled_end : (old new : LotReader) (more : Bool) (start left rest : Option (List ℕ)) → HasLots limits old start left
-      → MovesBytes old.kept.items new.kept.items more left rest → more ≡ false → IsAtEnd start rest
-  filled_end old new more None left rest has moves none = tt
-  filled_end old new more (Some all) None rest has moves none = absurd has
-  filled_end old new more (Some all) (Some bytes) None has moves none = moves
-  filled_end old new more (Some all) (Some bytes) (Some later) has moves none = moves.1 none
+  filled_end : (done : Part) (kept old new : List ℕ) (more : Bool) (start left rest : Option (List ℕ)) → HasLots limits done kept start left
+      → MovesBytes old new more left rest → more ≡ false → IsAtEnd start rest
+  filled_end done kept old new more None left rest has moves none = tt
+  filled_end done kept old new more (Some all) None rest has moves none = absurd has
+  filled_end done kept old new more (Some all) (Some bytes) None has moves none = moves
+  filled_end done kept old new more (Some all) (Some bytes) (Some later) has moves none = moves.1 none
 
-  pub filled : (old new : LotReader) (more : Bool) (start left rest : Option (List ℕ)) → HasLots limits old start left
-      → MovesBytes old.kept.items new.kept.items more left rest → new.done ≡ old.done → HasCome limits new more start rest
-  filled old new more start left rest has moves same = record {
-    lots = filled_lines old new more start left rest has moves same;
-    ended = filled_end old new more start left rest has moves;
+  pub filled : (done : Part) (before old new : List ℕ) (more : Bool) (start left rest : Option (List ℕ))
+      → HasLots limits done (before ++ old) start left → MovesBytes old new more left rest
+      → HasCome limits done (before ++ new) more start rest
+  filled done before old new more start left rest has moves = record {
+    lots = filled_lines done before old new more start left rest has moves;
+    ended = filled_end done (before ++ old) old new more start left rest has moves;
   }
 
-  taken_lines : (old new : LotReader) (used : ℕ) (start left : Option (List ℕ)) → HasLots limits old start left
-      → TakesLines limits old.done (take used old.kept.items) new.done [] → new.kept.items ≡ drop used old.kept.items
-      → HasLots limits new start left
-  taken_lines old new used None left has takes left_over = tt
-  taken_lines old new used (Some all) None has takes left_over = has
-  taken_lines old new used (Some all) (Some bytes) has takes left_over =
-      let front = take used old.kept.items in
+  -- of the lot that waits lines are taken
+
+  taken_lines : (old new : Part) (bytes kept : List ℕ) (used : ℕ) (start left : Option (List ℕ))
+      → HasLots limits old (bytes ++ kept) start left → TakesLines limits old (take used bytes) new []
+      → HasLots limits new (drop used bytes ++ kept) start left
+  taken_lines old new bytes kept used None left has takes = tt
+  taken_lines old new bytes kept used (Some all) None has takes = has
+  taken_lines old new bytes kept used (Some all) (Some more) has takes =
+      let front = take used bytes in
+      let rest = drop used bytes in
       record {
         front = has.front ++ front;
-        parts = has.parts ∙ ap (λ own. has.front ++ (own ++ bytes)) (sym (take-append-drop used old.kept.items))
-            ∙ ap (λ own. has.front ++ own) (append_assoc front (drop used old.kept.items) bytes)
-            ∙ sym (append_assoc has.front front (drop used old.kept.items ++ bytes))
-            ∙ ap (λ own. (has.front ++ front) ++ (own ++ bytes)) (sym left_over);
-        same = λ rest. ap (entries_of limits) (append_assoc has.front front rest) ∙ has.same (front ++ rest) ∙ takes rest;
+        parts = has.parts ∙ ap (λ own. has.front ++ ((own ++ kept) ++ more)) (sym (take-append-drop used bytes))
+            ∙ ap (λ own. has.front ++ (own ++ more)) (append_assoc front rest kept)
+            ∙ ap (λ own. has.front ++ own) (append_assoc front (rest ++ kept) more)
+            ∙ sym (append_assoc has.front front ((rest ++ kept) ++ more));
+        same = λ own. ap (entries_of limits) (append_assoc has.front front own) ∙ has.same (front ++ own) ∙ takes own;
       }
 
-  pub taken : (old new : LotReader) (more : Bool) (used : ℕ) (start left : Option (List ℕ)) → HasCome limits old more start left
-      → TakesLines limits old.done (take used old.kept.items) new.done [] → new.kept.items ≡ drop used old.kept.items
-      → HasCome limits new more start left
-  taken old new more used start left has takes left_over =
-      record { lots = taken_lines old new used start left has.lots takes left_over; ended = has.ended }
+  pub taken : (old new : Part) (bytes kept : List ℕ) (more : Bool) (used : ℕ) (start left : Option (List ℕ))
+      → HasCome limits old (bytes ++ kept) more start left → TakesLines limits old (take used bytes) new []
+      → HasCome limits new (drop used bytes ++ kept) more start left
+  taken old new bytes kept more used start left has takes =
+      record { lots = taken_lines old new bytes kept used start left has.lots takes; ended = has.ended }
 
 -- one reader goes on
 
@@ -217,7 +226,7 @@ module _ (limits : LimitNumbers) (reader : LotReader) (first : Progress)
   pub goes_on : (progress : Progress) (change : List Entry) → ((later : List ℕ)
       → kept_all pushed reader.done.change (entries_left limits first (reader.kept.items ++ later))
       ≡ kept_all pushed change (entries_left limits progress later))
-      → (start left : Option (List ℕ)) → HasLots limits reader start left → HasRead pushed limits [] progress change start left
+      → (start left : Option (List ℕ)) → HasLots limits reader.done reader.kept.items start left → HasRead pushed limits [] progress change start left
   goes_on progress change takes None left has = tt
   goes_on progress change takes (Some all) None has = has
   goes_on progress change takes (Some all) (Some bytes) has = record {
@@ -229,7 +238,7 @@ module _ (limits : LimitNumbers) (reader : LotReader) (first : Progress)
 
   pub stops_on : (fault : FileFault) → ((later : List ℕ)
       → kept_all pushed reader.done.change (entries_left limits first (reader.kept.items ++ later)) ≡ Err fault)
-      → (start left : Option (List ℕ)) → HasLots limits reader start left → IsFaultOf limits start fault
+      → (start left : Option (List ℕ)) → HasLots limits reader.done reader.kept.items start left → IsFaultOf limits start fault
   stops_on fault stops None left has = tt
   stops_on fault stops (Some all) None has = absurd has
   stops_on fault stops (Some all) (Some bytes) has =

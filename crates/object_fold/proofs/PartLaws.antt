@@ -2,7 +2,7 @@
 use Rattle.std.proofs.Common.{◌≡◌, ℕ, suc, zero, ◌+◌, ◌<◌, ◌≤◌, Bool, true, false, nat_lt, nat_le, Option, Some, None, List, [], ◌∷◌}
 use Rattle.std.proofs.Common.{◌++◌, length, length-append, take, drop, append_assoc, refl, sym, ◌∙◌, ap, subst, arith}
 use Rattle.std.proofs.lemmas.Bool.{le-leb}
-use Rattle.std.proofs.lemmas.List.{append-nil, drop-drop}
+use Rattle.std.proofs.lemmas.List.{append-nil, drop-drop, drop-take, length-drop, length-take-le, take-take}
 use Rattle.std.specs.Prelude.{Result, Ok, Err}
 use Rattle.std.specs.List.{cons_option}
 use Rattle.std.specs.Option.{option_len, option_or}
@@ -23,7 +23,7 @@ use Rattle.object_fold.specs.declared.passed.Passed.{Passed}
 use Rattle.object_fold.specs.Change.{Follows, FollowsAll, IsChange, RiseFrom, last_key}
 use Rattle.object_fold.specs.Entries.{unless}
 use Rattle.object_fold.specs.Passed.{spelled, entry_in, order_fault, count_fault, said_fault, text_fault, line_fault}
-use Rattle.object_fold.specs.Parts.{none_passed, behind, passed_all, in_front_all, comes_to, IsPart, TakesLines, AreShares}
+use Rattle.object_fold.specs.Parts.{none_passed, behind, passed_all, in_front_all, comes_to, IsPart, TakesLines, AreShares, bytes_in}
 use Rattle.object_fold.specs.Progress.{last_of, passed_line, in_front, entries_from}
 use Rattle.object_fold.proofs.Lines.{entries_from-next, entries_from-none}
 use Rattle.object_fold.proofs.WholeFile.{last_key-more}
@@ -374,3 +374,23 @@ takes_share limits old now new bytes used len so_far more = λ later.
 pub shares_behind : (limits : LimitNumbers) (bytes : List ℕ) (used len : ℕ) (shares : List Share)
     → AreShares limits (drop len (drop used bytes)) shares → AreShares limits (drop (used + len) bytes) shares
 shares_behind limits bytes used len shares are = subst (λ own. AreShares limits own shares) (drop-drop len used bytes) are
+
+-- shares have no more bytes than those whose shares they are, and are those of so many of them
+
+pub shares_within : (limits : LimitNumbers) (bytes : List ℕ) (shares : List Share) → AreShares limits bytes shares
+    → bytes_in shares ≤ length bytes
+shares_within limits bytes [] are = omega arith
+shares_within limits bytes (share ∷ shares) are =
+    let more = shares_within limits (drop share.len bytes) shares are.2 in
+    omega (arith, more, are.0, length-drop share.len bytes)
+
+pub shares_cover : (limits : LimitNumbers) (bytes : List ℕ) (shares : List Share) → AreShares limits bytes shares
+    → AreShares limits (take (bytes_in shares) bytes) shares
+shares_cover limits bytes [] are = tt
+shares_cover limits bytes (share ∷ shares) are =
+    let more = shares_within limits (drop share.len bytes) shares are.2 in (
+      omega (arith, length-take-le (share.len + bytes_in shares) bytes (omega (arith, are.0, more, length-drop share.len bytes))),
+      subst (λ own. IsPart limits own share.part) (sym (take-take share.len (share.len + bytes_in shares) bytes (omega arith))) are.1,
+      subst (λ own. AreShares limits own shares) (sym (drop-take share.len (bytes_in shares) bytes))
+          (shares_cover limits (drop share.len bytes) shares are.2),
+    )

@@ -1,14 +1,15 @@
 -- A file that is read by lots: the lines of each are read side by side, and put behind those before.
 -- So at each moment the whole file comes to what the lines that were taken come to with all that is behind them (`HasLines`): the bytes
 -- that are kept, of which no line was taken yet, and those that are left in the file.
-use Rattle.std.specs.Prelude.{◌≡◌, ◌≤◌, ◌<◌, ℕ, ◌+◌, List, [], ◌++◌, length, Option, Bool, false}
+use Rattle.std.specs.Prelude.{◌≡◌, ◌≤◌, ◌<◌, ℕ, ◌+◌, ◌*◌, List, [], ◌++◌, length, Option, Bool, false}
 use Rattle.osm_base.specs.declared.bounds.limits.LimitNumbers.{LimitNumbers}
 use Rattle.outside.specs.Bytes.{BothKnown}
 use Rattle.object_fold.specs.declared.lots.LotReader.{LotReader}
 use Rattle.object_fold.specs.declared.parts.Part.{Part}
 use Rattle.object_fold.specs.declared.scan.TheConstants.{PIECE}
+use Rattle.object_fold.specs.declared.waiting.Waiting.{Waiting}
 use Rattle.object_fold.specs.Entries.{entries_of}
-use Rattle.object_fold.specs.Parts.{comes_to, StaysWithin}
+use Rattle.object_fold.specs.Parts.{AreShares, comes_to, StaysWithin}
 use Rattle.object_fold.specs.Reading.{LeavesOpen}
 
 -- of these bytes those that come later were not read: so many at most were behind bytes that left each fault open
@@ -34,22 +35,30 @@ pub record HasLines (limits : LimitNumbers) (done : Part) (kept bytes later : Li
   pub parts : bytes ≡ front ++ (kept ++ later)
   pub same : (rest : List ℕ) → entries_of limits (front ++ rest) ≡ comes_to limits done rest
 
--- so far was read since the start of the file
-abbrev pub HasLots : LimitNumbers → LotReader → Option (List ℕ) → Option (List ℕ) → Type 0
-HasLots limits reader left rest = BothKnown left rest (λ bytes later. HasLines limits reader.done reader.kept.items bytes later)
+-- so far was read since the start of the file: these lines were taken, and these bytes are kept
+abbrev pub HasLots : LimitNumbers → Part → List ℕ → Option (List ℕ) → Option (List ℕ) → Type 0
+HasLots limits done kept left rest = BothKnown left rest (λ bytes later. HasLines limits done kept bytes later)
 
 -- the file is at its end
 abbrev pub IsAtEnd : Option (List ℕ) → Option (List ℕ) → Type 0
 IsAtEnd left rest = BothKnown left rest (λ bytes later. later ≡ [])
 
 -- so far was read, and where no more comes the file is at its end
-pub record HasCome (limits : LimitNumbers) (reader : LotReader) (more : Bool) (left rest : Option (List ℕ)) : Type 0 where
-  pub lots : HasLots limits reader left rest
+pub record HasCome (limits : LimitNumbers) (done : Part) (kept : List ℕ) (more : Bool) (left rest : Option (List ℕ)) : Type 0 where
+  pub lots : HasLots limits done kept left rest
   pub ended : more ≡ false → IsAtEnd left rest
 
--- the most bytes that are kept
+-- the bytes of the lot that waits, and then those that were read behind it
+abbrev pub all_kept : Waiting → LotReader → List ℕ
+all_kept waiting reader = waiting.bytes.items ++ reader.kept.items
+
+-- the most bytes of a lot
+abbrev pub most_of_lot : LotReader → ℕ
+most_of_lot reader = reader.lot + PIECE
+
+-- the most bytes that are kept: those of two lots
 abbrev pub most_kept : LotReader → ℕ
-most_kept reader = reader.lot + PIECE
+most_kept reader = 2 * most_of_lot reader
 
 -- there are workers, room for a read, and no more bytes than there may be, and the lines keep the limits
 pub record IsAtWork (limits : LimitNumbers) (reader : LotReader) : Type 0 where
@@ -58,3 +67,9 @@ pub record IsAtWork (limits : LimitNumbers) (reader : LotReader) : Type 0 where
   pub room : length reader.buffer.items ≤ PIECE
   pub few : length reader.kept.items ≤ most_kept reader
   pub within : StaysWithin limits reader.done
+
+-- of a lot that waits these are the shares, and neither it nor the one behind it is longer than a lot
+pub record Waits (limits : LimitNumbers) (waiting : Waiting) (reader : LotReader) : Type 0 where
+  pub shares : AreShares limits waiting.bytes.items waiting.shares.items
+  pub few : length waiting.bytes.items ≤ most_of_lot reader
+  pub next : length reader.kept.items ≤ most_of_lot reader

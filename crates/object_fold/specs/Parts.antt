@@ -68,3 +68,8 @@ abbrev pub AreShares : LimitNumbers → List ℕ → List Share → Type 0
 AreShares limits bytes [] = Unit {0}
 AreShares limits bytes (share ∷ more) =
     (share.len ≤ length bytes) × IsPart limits (take share.len bytes) share.part × AreShares limits (drop share.len bytes) more
+
+-- how many bytes these shares have
+abbrev pub bytes_in : List Share → ℕ
+bytes_in [] = 0
+bytes_in (share ∷ more) = share.len + bytes_in more

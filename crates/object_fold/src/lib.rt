@@ -27,6 +27,7 @@ mod progress;
 mod rising_ids;
 mod scan;
 mod share_out;
+mod waiting;
 mod whole;
 
 pub use change::Change;

@@ -1,29 +1,31 @@
 //! A file of entries, read by lots of bytes whose lines several workers read side by side.
-ghost use Rattle.std.specs.Prelude.{◌≡◌, ◌<◌, ◌≤◌, ◌+◌, List, ℕ, [], Option, false, true, length, drop, IfOk, IfErr, OnOk, OnErr};
+ghost use Rattle.std.specs.Prelude.{◌≡◌, ◌<◌, ◌≤◌, ◌+◌, ◌*◌, Bool, List, ℕ, [], Option, false, true, length, drop, take, IfOk, IfErr, OnOk, OnErr};
 ghost use Rattle.osm_base.specs.declared.bounds.limits.LimitNumbers.{LimitNumbers};
 ghost use Rattle.outside.specs.Bytes.{IfTold};
 ghost use Rattle.outside.specs.Causes.{Rose};
 ghost use Rattle.object_fold.specs.Entries.{IsAccepted};
-ghost use Rattle.object_fold.specs.Lots.{HasCome, HasLots, IsAtWork, ReadsBehind, ReadsNoFurtherThan, most_kept};
+ghost use Rattle.object_fold.specs.Lots.{HasCome, HasLots, IsAtWork, ReadsBehind, ReadsNoFurtherThan, Waits, all_kept, most_kept, most_of_lot};
+ghost use Rattle.object_fold.specs.Parts.{bytes_in};
 ghost use Rattle.object_fold.specs.Reading.{HasEntries, IsFaultOf, ReadsAtMost, ReadsNoOther, ReadsOnce};
 ghost use Rattle.object_fold.specs.Stops.{Stops};
 ghost use Rattle.object_fold.specs.Whole.{MovesBytes};
 
-use crate::parts::Part;
+use crate::parts::{Part, Share};
 use crate::progress::Progress;
 use crate::scan::{PIECE, read_file, read_on};
-use crate::share_out::share_out;
+use crate::waiting::{Waiting, behind, read_beside};
 use crate::{Change, FileFault};
 use opl_lines::first_line;
 use osm_base::{Limits, OutOfMemory};
 use outside::Inputs;
 use std::alloc::Global;
+use std::mem;
 use std::thread::Threads;
 
-/// How many bytes of a file are read before their lines are shared out.
-pub const LOT: usize = 4_194_304;
+/// How many bytes of a file are read before their lines are shared out, while the lines of as many wait to be put behind the others.
+pub const LOT: usize = 2_097_152;
 
-/// How far a file was read: the lines that were taken, and the bytes behind them that are kept.
+/// How far a file was read: the lines that were taken, and the bytes of the lot that is read behind them.
 #[derive(Drop)]
 pub struct LotReader {
     workers: u32,
@@ -77,7 +79,8 @@ impl LotReader {
         requires lot { 0 < lot }
         ensures work { IfOk result (λ reader. (limits : LimitNumbers) → IsAtWork limits reader) }
         ensures lot { IfOk result (λ reader. reader.lot ≡ lot) }
-        ensures start { IfOk result (λ reader. (limits : LimitNumbers) (left : Option (List ℕ)) → HasLots limits reader left left) }
+        ensures few { IfOk result (λ reader. reader.kept.items ≡ []) }
+        ensures start { IfOk result (λ reader. (limits : LimitNumbers) (left : Option (List ℕ)) → HasLots limits reader.done reader.kept.items left left) }
     {
         Ok(Self {
             workers,
@@ -91,13 +94,13 @@ impl LotReader {
     /// Reads on until a lot is kept. `false`: the file is at its end.
     fn fill<I: Inputs>(&mut self, inputs: &mut I, file: u32) -> Result<bool, FileFault>
         requires room { (0 < length self.old.buffer.items) × (length self.old.buffer.items ≤ PIECE) }
-        requires few { length self.old.kept.items ≤ most_kept self.old }
+        requires few { length self.old.kept.items ≤ most_of_lot self.old }
         ensures bytes { IfOk result (λ more. MovesBytes self.old.kept.items self.new.kept.items more
             ((I.view inputs.old).left file) ((I.view inputs.new).left file)) }
         ensures same { OnOk result (self.new ≡ record self.old { buffer = self.new.buffer; kept = self.new.kept }) }
         ensures room { OnOk result ((0 < length self.new.buffer.items) × (length self.new.buffer.items ≤ PIECE)) }
-        ensures few { OnOk result (length self.new.kept.items ≤ most_kept self.old) }
-        ensures left { OnErr result (ReadsBehind (most_kept self.old) self.old.kept.items
+        ensures few { OnOk result (length self.new.kept.items ≤ most_of_lot self.old) }
+        ensures left { OnErr result (ReadsBehind (most_of_lot self.old) self.old.kept.items
             ((I.view inputs.old).left file) ((I.view inputs.new).left file)) }
         ensures stopped { IfErr result (Stops (λ _. ⊥) (Rose (I.view inputs.old).faults (I.view inputs.new).faults)) }
         ensures read { ReadsNoOther file (λ asked. I.reads inputs.old asked inputs.new) (I.view inputs.old) (I.view inputs.new) }
@@ -110,6 +113,24 @@ impl LotReader {
         Ok(true)
     }
 
+    /// Lets a lot wait with its shares, up to where these end. What is behind them is the front of the next one.
+    fn put_aside(&mut self, waiting: &mut Waiting, shares: Vec<Share>) -> Result<(), OutOfMemory>
+        requires none { waiting.old.bytes.items ≡ [] }
+        requires few { bytes_in shares.items ≤ length self.old.kept.items }
+        ensures same { OnOk result (self.new ≡ record self.old { kept = self.new.kept }) }
+        ensures shares { OnOk result (waiting.new.shares ≡ shares) }
+        ensures waits { OnOk result (waiting.new.bytes.items ≡ take (bytes_in shares.items) self.old.kept.items) }
+        ensures left { OnOk result (self.new.kept.items ≡ drop (bytes_in shares.items) self.old.kept.items) }
+    {
+        let rest = behind(&self.kept, &shares);
+        let covered = self.kept.len() - rest.len();
+        waiting.bytes.extend_from_slice(rest)?;
+        self.kept.truncate(covered);
+        mem::swap(&mut self.kept, &mut waiting.bytes);
+        waiting.shares = shares;
+        Ok(())
+    }
+
     /// Reads a lot, and takes the lines that end in it. `false`: the file is at its end.
     fn take_lot<I: Inputs, R: Threads + Sync>(
         &mut self,
@@ -118,22 +139,38 @@ impl LotReader {
         inputs: &mut I,
         file: u32,
         limits: &Limits,
+        waiting: &mut Waiting,
     ) -> Result<bool, FileFault>
         requires work { IsAtWork limits.now self.old }
+        requires waits { Waits limits.now waiting.old self.old }
         ensures work { OnOk result (IsAtWork limits.now self.new) }
+        ensures waits { OnOk result (Waits limits.now waiting.new self.new) }
         ensures lot { OnOk result (self.new.lot ≡ self.old.lot) }
-        ensures lots { IfOk result (λ more. (start : Option (List ℕ)) → HasLots limits.now self.old start ((I.view inputs.old).left file)
-            → HasCome limits.now self.new more start ((I.view inputs.new).left file)) }
-        ensures left { OnErr result ((start : Option (List ℕ)) → HasLots limits.now self.old start ((I.view inputs.old).left file)
+        ensures lots { IfOk result (λ more. (start : Option (List ℕ)) → HasLots limits.now self.old.done (all_kept waiting.old self.old) start ((I.view inputs.old).left file)
+            → HasCome limits.now self.new.done (all_kept waiting.new self.new) more start ((I.view inputs.new).left file)) }
+        ensures left { OnErr result ((start : Option (List ℕ)) → HasLots limits.now self.old.done (all_kept waiting.old self.old) start ((I.view inputs.old).left file)
             → ReadsNoFurtherThan (most_kept self.old) limits.now start ((I.view inputs.new).left file)) }
         ensures stopped { IfErr result (Stops (λ _. ⊥) (Rose (I.view inputs.old).faults (I.view inputs.new).faults)) }
         ensures read { ReadsNoOther file (λ asked. I.reads inputs.old asked inputs.new) (I.view inputs.old) (I.view inputs.new) }
     {
         let more = self.fill(inputs, file)?;
         let least = self.lot / self.workers as usize;
-        let shares = share_out(rt, alloc, limits, &self.kept, self.workers, least);
-        let used = self.done.append_all(limits, &self.kept, shares);
-        drop_front(alloc, &mut self.kept, used)?;
+        let (used, shares) = read_beside(
+            rt,
+            alloc,
+            limits,
+            &self.kept,
+            self.workers,
+            least,
+            waiting,
+            &mut self.done,
+        );
+        drop_front(alloc, &mut waiting.bytes, used)?;
+        // A share may not stand where it would: one reader goes on from there.
+        if !waiting.bytes.is_empty() {
+            return Ok(more);
+        }
+        self.put_aside(waiting, shares)?;
         Ok(more)
     }
 
@@ -145,20 +182,23 @@ impl LotReader {
         inputs: &mut I,
         file: u32,
         limits: &Limits,
+        waiting: &mut Waiting,
     ) -> Result<bool, FileFault>
         requires work { IsAtWork limits.now self.old }
+        requires waits { Waits limits.now waiting.old self.old }
         ensures work { OnOk result (IsAtWork limits.now self.new) }
+        ensures waits { OnOk result (Waits limits.now waiting.new self.new) }
         ensures lot { OnOk result (self.new.lot ≡ self.old.lot) }
-        ensures lots { IfOk result (λ more. (start : Option (List ℕ)) → HasLots limits.now self.old start ((I.view inputs.old).left file)
-            → HasCome limits.now self.new more start ((I.view inputs.new).left file)) }
-        ensures left { OnErr result ((start : Option (List ℕ)) → HasLots limits.now self.old start ((I.view inputs.old).left file)
+        ensures lots { IfOk result (λ more. (start : Option (List ℕ)) → HasLots limits.now self.old.done (all_kept waiting.old self.old) start ((I.view inputs.old).left file)
+            → HasCome limits.now self.new.done (all_kept waiting.new self.new) more start ((I.view inputs.new).left file)) }
+        ensures left { OnErr result ((start : Option (List ℕ)) → HasLots limits.now self.old.done (all_kept waiting.old self.old) start ((I.view inputs.old).left file)
             → ReadsNoFurtherThan (most_kept self.old) limits.now start ((I.view inputs.new).left file)) }
         ensures stopped { IfErr result (Stops (λ _. ⊥) (Rose (I.view inputs.old).faults (I.view inputs.new).faults)) }
         ensures read { ReadsNoOther file (λ asked. I.reads inputs.old asked inputs.new) (I.view inputs.old) (I.view inputs.new) }
     {
         // Each lot has a line at least, or it is the last one.
         for _ in 0..limits.lines() {
-            if !self.take_lot(rt, alloc, inputs, file, limits)? {
+            if !self.take_lot(rt, alloc, inputs, file, limits, waiting)? {
                 return Ok(false);
             }
             if self.kept.len() >= self.lot || first_line(&self.kept).is_some() {
@@ -166,6 +206,54 @@ impl LotReader {
             }
         }
         Ok(true)
+    }
+
+    /// Puts the lot that waits behind the lines before it. What is left of it stands before the bytes that are kept.
+    fn settle(
+        &mut self,
+        alloc: Global,
+        limits: &Limits,
+        mut waiting: Waiting,
+    ) -> Result<(), OutOfMemory>
+        requires work { IsAtWork limits.now self.old }
+        requires waits { Waits limits.now waiting self.old }
+        ensures work { OnOk result (IsAtWork limits.now self.new) }
+        ensures lot { OnOk result (self.new.lot ≡ self.old.lot) }
+        ensures lots { OnOk result ((more : Bool) (start left : Option (List ℕ)) → HasCome limits.now self.old.done (all_kept waiting self.old) more start left
+            → HasCome limits.now self.new.done self.new.kept.items more start left) }
+    {
+        let used = waiting.put_behind(alloc, limits, &mut self.done);
+        drop_front(alloc, &mut waiting.bytes, used)?;
+        waiting.bytes.append(&mut self.kept)?;
+        mem::swap(&mut self.kept, &mut waiting.bytes);
+        Ok(())
+    }
+
+    /// Takes lots while each line that ends is one that can be taken, and puts the last one behind those before it. `false`: the file is
+    /// at its end.
+    fn read_lots<I: Inputs, R: Threads + Sync>(
+        &mut self,
+        rt: &R,
+        alloc: Global,
+        inputs: &mut I,
+        file: u32,
+        limits: &Limits,
+    ) -> Result<bool, FileFault>
+        requires work { IsAtWork limits.now self.old }
+        requires few { length self.old.kept.items ≤ most_of_lot self.old }
+        ensures work { OnOk result (IsAtWork limits.now self.new) }
+        ensures lot { OnOk result (self.new.lot ≡ self.old.lot) }
+        ensures lots { IfOk result (λ more. (start : Option (List ℕ)) → HasLots limits.now self.old.done self.old.kept.items start ((I.view inputs.old).left file)
+            → HasCome limits.now self.new.done self.new.kept.items more start ((I.view inputs.new).left file)) }
+        ensures left { OnErr result ((start : Option (List ℕ)) → HasLots limits.now self.old.done self.old.kept.items start ((I.view inputs.old).left file)
+            → ReadsNoFurtherThan (most_kept self.old) limits.now start ((I.view inputs.new).left file)) }
+        ensures stopped { IfErr result (Stops (λ _. ⊥) (Rose (I.view inputs.old).faults (I.view inputs.new).faults)) }
+        ensures read { ReadsNoOther file (λ asked. I.reads inputs.old asked inputs.new) (I.view inputs.old) (I.view inputs.new) }
+    {
+        let mut waiting = Waiting::new(alloc);
+        let more = self.take_lots(rt, alloc, inputs, file, limits, &mut waiting)?;
+        self.settle(alloc, limits, waiting)?;
+        Ok(more)
     }
 
     /// Reads on by one reader, from the bytes that are kept to the end of the file.
@@ -178,12 +266,12 @@ impl LotReader {
         more: bool,
     ) -> Result<Change, FileFault>
         requires work { IsAtWork limits.now self }
-        ensures ok { IfOk result (λ change. (start : Option (List ℕ)) → HasCome limits.now self more start ((I.view inputs.old).left file)
+        ensures ok { IfOk result (λ change. (start : Option (List ℕ)) → HasCome limits.now self.done self.kept.items more start ((I.view inputs.old).left file)
             → HasEntries limits.now change start ((I.view inputs.new).left file)) }
-        ensures left { OnErr result ((start : Option (List ℕ)) → HasLots limits.now self start ((I.view inputs.old).left file)
+        ensures left { OnErr result ((start : Option (List ℕ)) → HasLots limits.now self.done self.kept.items start ((I.view inputs.old).left file)
             → ReadsNoFurtherThan (most_kept self) limits.now start ((I.view inputs.new).left file)) }
         ensures stopped { IfErr result (Stops (λ fault. (start : Option (List ℕ))
-            → HasCome limits.now self more start ((I.view inputs.old).left file) → IsFaultOf limits.now start fault)
+            → HasCome limits.now self.done self.kept.items more start ((I.view inputs.old).left file) → IsFaultOf limits.now start fault)
             (Rose (I.view inputs.old).faults (I.view inputs.new).faults)) }
         ensures read { ReadsNoOther file (λ asked. I.reads inputs.old asked inputs.new) (I.view inputs.old) (I.view inputs.new) }
     {
@@ -215,7 +303,8 @@ impl LotReader {
     }
 }
 
-/// The entries of a file, read by lots of so many bytes.
+/// The entries of a file, read by lots of so many bytes. While the lines of one are read, those of the one before it are put behind
+/// the others.
 pub fn read_by_lots<I: Inputs, R: Threads + Sync>(
     rt: &R,
     alloc: Global,
@@ -231,17 +320,17 @@ pub fn read_by_lots<I: Inputs, R: Threads + Sync>(
     ensures accepted { IfOk result (λ change. IfTold ((I.view inputs.old).left file) (λ bytes. IsAccepted limits.now bytes change)) }
     ensures stopped { IfErr result (Stops (IsFaultOf limits.now ((I.view inputs.old).left file))
         (Rose (I.view inputs.old).faults (I.view inputs.new).faults)) }
-    ensures left { OnErr result (ReadsNoFurtherThan (lot + PIECE) limits.now
+    ensures left { OnErr result (ReadsNoFurtherThan (2 * (lot + PIECE)) limits.now
         ((I.view inputs.old).left file) ((I.view inputs.new).left file)) }
     ensures read { ReadsNoOther file (λ asked. I.reads inputs.old asked inputs.new) (I.view inputs.old) (I.view inputs.new) }
 {
     let mut reader = LotReader::new(alloc, workers, lot)?;
-    let more = reader.take_lots(rt, alloc, inputs, file, limits)?;
+    let more = reader.read_lots(rt, alloc, inputs, file, limits)?;
     let change = reader.finish(alloc, inputs, file, limits, more)?;
     Ok(change)
 }
 
-/// The entries of a file, read by so many workers. A file that is refused may be read a lot further than `read_file` reads it.
+/// The entries of a file, read by so many workers. A file that is refused may be read two lots further than `read_file` reads it.
 pub fn read_parallel<I: Inputs, R: Threads + Sync>(
     rt: &R,
     alloc: Global,
@@ -255,7 +344,7 @@ pub fn read_parallel<I: Inputs, R: Threads + Sync>(
     ensures accepted { IfOk result (λ change. IfTold ((I.view inputs.old).left file) (λ bytes. IsAccepted limits.now bytes change)) }
     ensures stopped { IfErr result (Stops (IsFaultOf limits.now ((I.view inputs.old).left file))
         (Rose (I.view inputs.old).faults (I.view inputs.new).faults)) }
-    ensures left { OnErr result (ReadsNoFurtherThan (LOT + PIECE) limits.now
+    ensures left { OnErr result (ReadsNoFurtherThan (2 * (LOT + PIECE)) limits.now
         ((I.view inputs.old).left file) ((I.view inputs.new).left file)) }
     ensures read { ReadsNoOther file (λ asked. I.reads inputs.old asked inputs.new) (I.view inputs.old) (I.view inputs.new) }
 {

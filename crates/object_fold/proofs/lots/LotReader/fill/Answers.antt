@@ -2,7 +2,7 @@ use Rattle.std.proofs.Common.{length, ap, arith}
 use Rattle.std.proofs.lemmas.Grind.{common_steps}
 use Rattle.std.specs.Vec.{with_items}
 use Rattle.object_fold.specs.declared.lots.LotReader.{LotReader}
-use Rattle.object_fold.specs.Lots.{most_kept}
+use Rattle.object_fold.specs.Lots.{most_of_lot}
 use Rattle.object_fold.proofs.LotLaws.{moves_behind, moves_more}
 use Rattle.object_fold.proofs.Pieces.{on_err, read_again}
 use Rattle.object_fold.proofs.lots.LotReader.fill.Goals as goal
@@ -14,7 +14,7 @@ returns-in_err-keep_read-clause-left g c =
     let rest = (g.I.Inputs.view c.keep_read.new.inputs).left c.args.file in
     let lot = ap (λ (own : LotReader). own.lot) c.loop-self.invariant.same in
     on_err c.from_residual.result _
-    (moves_behind c.args.self.now.kept.items c.loop-self.self.kept.items (most_kept c.args.self.now) (length c.deref_mut.result.now)
+    (moves_behind c.args.self.now.kept.items c.loop-self.self.kept.items (most_of_lot c.args.self.now) (length c.deref_mut.result.now)
     start left rest
     (omega (arith, lot, c.loop-self-test.true, ap length c.deref_mut.ensures.value, c.loop-self.invariant.room))
     c.loop-self.invariant.moves c.in_err-keep_read.ensures.left)

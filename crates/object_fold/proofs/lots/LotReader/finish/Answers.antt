@@ -13,7 +13,7 @@ use Rattle.object_fold.proofs.lots.LotReader.finish.Goals as goal
 pub returns-in_err-take-clause-left : goal.returns-in_err-take-clause-left
 returns-in_err-take-clause-left g c =
     on_err c.from_residual.result _ (λ start has.
-    lots_stop c.args.limits.now c.args.self (most_kept c.args.self) start ((g.I.Inputs.view c.args.inputs.now).left c.args.file) has
+    lots_stop c.args.limits.now c.args.self.done c.args.self.kept.items (most_kept c.args.self) start ((g.I.Inputs.view c.args.inputs.now).left c.args.file) has
     c.requires.work.few)
 
 -- the end of the file
@@ -21,12 +21,12 @@ returns-in_err-take-clause-left g c =
 pub returns-in_err-finish-clause-left : goal.returns-in_err-finish-clause-left
 returns-in_err-finish-clause-left g c =
     on_err c.from_residual-in_err-finish.result _ (λ start has.
-    lots_stop c.args.limits.now c.args.self (most_kept c.args.self) start ((g.I.Inputs.view c.args.inputs.now).left c.args.file) has
+    lots_stop c.args.limits.now c.args.self.done c.args.self.kept.items (most_kept c.args.self) start ((g.I.Inputs.view c.args.inputs.now).left c.args.file) has
     c.requires.work.few)
 
 pub returns-then-not-more-clause-ok : goal.returns-then-not-more-clause-ok
 returns-then-not-more-clause-ok g c = λ start come.
-    let begun = λ (start : Option (List ℕ)) (has : HasLots c.args.limits.now c.args.self start
+    let begun = λ (start : Option (List ℕ)) (has : HasLots c.args.limits.now c.args.self.done c.args.self.kept.items start
     ((g.I.Inputs.view c.args.inputs.now).left c.args.file)).
     goes_on c.args.limits.now c.args.self c.behind-progress.result c.behind-progress.ensures.left c.take.new.self c.take.new.keeper
     (subst (λ (own : List ℕ). (later : List ℕ)
@@ -42,7 +42,7 @@ returns-then-not-more-clause-ok g c = λ start come.
 pub loop-progress-init : goal.loop-progress-init
 loop-progress-init g c =
     let laws = g.met.I.Inputs g.world.𝓛 g.world.𝓜 g.world.𝓡 ((λ s x. x), (λ x. x), (λ x. x), λ x. x) in
-    let begun = λ (start : Option (List ℕ)) (has : HasLots c.args.limits.now c.args.self start
+    let begun = λ (start : Option (List ℕ)) (has : HasLots c.args.limits.now c.args.self.done c.args.self.kept.items start
     ((g.I.Inputs.view c.args.inputs.now).left c.args.file)).
     goes_on c.args.limits.now c.args.self c.behind-progress.result c.behind-progress.ensures.left c.take.new.self c.take.new.keeper
     (subst (λ (own : List ℕ). (later : List ℕ)

@@ -14,7 +14,7 @@ invariant-loop-progress g l = record {
   ready : IsReadyFor (λ change next. Follows (last_key Option.None change) next) l.limits l.progress l.change;
   some : 0 < length l.buffer.items;
   room : length l.buffer.items ≤ PIECE;
-  read : (start : Option (List ℕ)) → HasLots l.limits l.fn.self start ((g.I.Inputs.view l.fn.inputs).left l.file)
+  read : (start : Option (List ℕ)) → HasLots l.limits l.fn.self.done l.fn.self.kept.items start ((g.I.Inputs.view l.fn.inputs).left l.file)
       → HasRead pushed l.limits [] l.progress l.change start ((g.I.Inputs.view l.inputs).left l.file);
   alone : ReadsNoOther l.file (λ asked. g.I.Inputs.reads l.fn.inputs asked l.inputs) (g.I.Inputs.view l.fn.inputs)
       (g.I.Inputs.view l.inputs);

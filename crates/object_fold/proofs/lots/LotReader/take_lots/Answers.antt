@@ -25,6 +25,7 @@ loop-preserved g c =
     let laws = g.met.I.Inputs g.world.𝓛 g.world.𝓜 g.world.𝓡 ((λ s x. x), (λ x. x), (λ x. x), λ x. x) in
     record {
       work = c.in_ok-take_lot.ensures.work;
+      waits = c.in_ok-take_lot.ensures.waits;
       lot = c.in_ok-take_lot.ensures.lot ∙ c.loop.invariant.lot;
       lots = λ start has. (c.in_ok-take_lot.ensures.lots start (c.loop.invariant.lots start has)).lots;
       alone = read_then g.I.Inputs.reads g.I.Inputs.view c.args.file laws.reads_then c.args.inputs.now c.loop.inputs c.take_lot.new.inputs

@@ -1,5 +1,5 @@
 use Rattle.std.proofs.Common.{◌≡◌, List, ℕ, Option}
-use Rattle.object_fold.specs.Lots.{HasLots, IsAtWork}
+use Rattle.object_fold.specs.Lots.{HasLots, IsAtWork, Waits, all_kept}
 use Rattle.object_fold.specs.Reading.{ReadsNoOther}
 use Rattle.object_fold.proofs.lots.LotReader.take_lots.Given as goal
 
@@ -8,8 +8,10 @@ abbrev pub invariant-loop : goal.invariant-loop
 invariant-loop g l = record {
   work : IsAtWork l.limits l.self;
   lot : l.self.lot ≡ l.fn.self.lot;
-  lots : (start : Option (List ℕ)) → HasLots l.limits l.fn.self start ((g.I.Inputs.view l.fn.inputs).left l.file)
-      → HasLots l.limits l.self start ((g.I.Inputs.view l.inputs).left l.file);
+  waits : Waits l.limits l.waiting l.self;
+  lots : (start : Option (List ℕ))
+      → HasLots l.limits l.fn.self.done (all_kept l.fn.waiting l.fn.self) start ((g.I.Inputs.view l.fn.inputs).left l.file)
+      → HasLots l.limits l.self.done (all_kept l.waiting l.self) start ((g.I.Inputs.view l.inputs).left l.file);
   alone : ReadsNoOther l.file (λ asked. g.I.Inputs.reads l.fn.inputs asked l.inputs) (g.I.Inputs.view l.fn.inputs)
       (g.I.Inputs.view l.inputs);
 }
