@@ -154,14 +154,13 @@ impl LotReader {
         ensures read { ReadsNoOther file (λ asked. I.reads inputs.old asked inputs.new) (I.view inputs.old) (I.view inputs.new) }
     {
         let more = self.fill(inputs, file)?;
-        let least = self.lot / self.workers as usize;
         let (used, shares) = read_beside(
             rt,
             alloc,
             limits,
             &self.kept,
             self.workers,
-            least,
+            self.lot,
             waiting,
             &mut self.done,
         );

@@ -12,7 +12,7 @@ use std::alloc::{AllocError, Global};
 use std::thread::Threads;
 
 /// Where a piece ends that has so many bytes at least: behind a newline, or where the bytes end.
-fn piece_end(bytes: &[u8], least: usize) -> usize
+pub fn piece_end(bytes: &[u8], least: usize) -> usize
     ensures within { result ≤ length bytes.now }
 {
     if least >= bytes.len() {
