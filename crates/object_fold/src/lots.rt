@@ -131,7 +131,7 @@ impl LotReader {
         Ok(())
     }
 
-    /// Reads a lot, and takes the lines that end in it. `false`: the file is at its end.
+    /// Reads a lot, whose lines wait then, and takes those of the lot that waited. `false`: the file is at its end.
     fn take_lot<I: Inputs, R: Threads + Sync>(
         &mut self,
         rt: &R,
