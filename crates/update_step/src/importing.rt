@@ -32,7 +32,7 @@ use osm_base::{
 use outside::Gate;
 use row_map::may_have_rows;
 use std::alloc::Global;
-use std::thread::Threads;
+use std::thread::{Threads, join_mut};
 use store_maps::MapStore;
 use style_read::Style;
 
@@ -91,15 +91,64 @@ fn add_entries<S: MapStore>(store: &mut S, change: &Change) -> Result<(), S::Ref
 fn rows_of<R: Threads + Sync, G: Gate>(
     hands: &Hands<'_, R, G>,
     style: &Style,
-    change: Change,
+    change: &Change,
     keys: &PendingKeys,
 ) -> Result<RowLists, OutOfMemory>
-    ensures rows { IfOk result (λ rows. rows ≡ map (rows_in style.now (folded_all finite.empty change)) (keys_of keys.now.set)) }
+    ensures rows { IfOk result (λ rows. rows ≡ map (rows_in style.now (folded_all finite.empty change.now)) (keys_of keys.now.set)) }
     ensures kept { IfOk result (AllByRecursion (MayKeep style.now.tables)) }
 {
     let objects = NewObjects::of(hands.alloc, change)?;
     let Built { rows, .. } = build_all(hands, style, &keys.set, &objects)?;
     Ok(rows)
+}
+
+/// Puts what the entries of a change say into maps without a value, while the workers build the rows of these keys, of which neither
+/// waits for the other.
+fn add_beside<S: MapStore, R: Threads + Sync, G: Gate>(
+    hands: &Hands<'_, R, G>,
+    store: &mut S,
+    style: &Style,
+    change: Change,
+    keys: &PendingKeys,
+) -> (Result<(), S::Refusal>, Result<RowLists, OutOfMemory>)
+    requires spent { S.spent store.old ≡ false }
+    ensures holds { OnOk result.0 ((under : S.Under) → S.holds store.old under empty_maps → S.holds store.new under (change_on empty_maps change)) }
+    ensures allowed { (under : S.Under) → S.holds store.old under empty_maps → IfErr result.0 S.allowed }
+    ensures sets { Sets S.looked S.spent S.bears S.faults store.old store.new result.0 }
+    ensures rows { IfOk result.1 (λ rows. rows ≡ map (rows_in style.now (folded_all finite.empty change)) (keys_of keys.now.set)) }
+    ensures kept { IfOk result.1 (AllByRecursion (MayKeep style.now.tables)) }
+{
+    let rt = hands.rt;
+    let alloc = hands.alloc;
+    let workers = hands.workers;
+    let gate = hands.gate;
+    let change = &change;
+    if workers.count() == 1 {
+        let added = add_entries(store, change);
+        return (added, rows_of(hands, style, change, keys));
+    }
+    let (rows, added) = join_mut(
+        rt,
+        &mut || -> Result<RowLists, OutOfMemory>
+            ensures { IfOk result (λ rows. (rows ≡ map (rows_in style.entry.now (folded_all finite.empty change.entry.now)) (keys_of keys.entry.now.set))
+                × AllByRecursion (MayKeep style.entry.now.tables) rows) }
+        {
+            let hands = Hands {
+                rt,
+                alloc,
+                workers,
+                gate,
+            };
+            rows_of(&hands, style, change, keys)
+        },
+        &mut || -> Result<(), S::Refusal>
+            requires { S.spent store.now ≡ false }
+            ensures { OnOk result ((under : S.Under) → S.holds store.entry.now under empty_maps → S.holds store.exit.now under (change_on empty_maps change.entry.now))
+                × ((under : S.Under) → S.holds store.entry.now under empty_maps → IfErr result S.allowed)
+                × Sets S.looked S.spent S.bears S.faults store.entry.now store.exit.now result }
+        { add_entries(store, change) },
+    );
+    (added, rows)
 }
 
 /// Each of these keys, which have no rows yet, has its rows.
@@ -149,8 +198,9 @@ pub fn import_maps<S: MapStore, R: Threads + Sync, G: Gate>(
 {
     let _entries = change.entries();
     let keys = wanted_keys(hands.alloc, style, &change)?;
-    add_entries(store, &change).map_err(StepFault::Store)?;
-    let rows = rows_of(hands, style, change, &keys)?;
+    let (added, rows) = add_beside(hands, store, style, change, &keys);
+    added.map_err(StepFault::Store)?;
+    let rows = rows?;
     match put_all(store, &keys, rows.as_slice()) {
         Ok(()) => Ok(()),
         Err(refusal) => Err(StepFault::Store(refusal)),

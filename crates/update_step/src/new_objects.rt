@@ -17,13 +17,13 @@ use std::marker::Model;
 /// The objects that a change makes of a map without any: the change itself, in whose entries a key is searched, and its
 /// relations, which are known by their members. `nodes` is how many of the entries are of nodes: where a search begins.
 #[derive(Drop)]
-pub(crate) struct NewObjects {
-    change: Change,
+pub(crate) struct NewObjects<'c> {
+    change: &'c Change,
     relations: Objects,
     nodes: usize,
 }
 
-impl Model for NewObjects {
+impl<'c> Model for NewObjects<'c> {
     ghost use Rattle.std.specs.Prelude.{◌≡◌};
     ghost use Rattle.std.specs.FinMap as map;
     ghost use Rattle.osm_base.specs.declared.values.object.Object.{Object};
@@ -37,17 +37,17 @@ impl Model for NewObjects {
 
     ghost coded = { map.code key.the_row.coded object.the_row.coded };
 
-    ghost view = { λ new. folded_all map.empty new.change };
+    ghost view = { λ new. folded_all map.empty new.change.now };
 
-    ghost invariant = { λ new. new.relations ≡ relations_folded new.change };
+    ghost invariant = { λ new. new.relations ≡ relations_folded new.change.now };
 }
 
-impl NewObjects {
+impl<'c> NewObjects<'c> {
     /// The objects that this change makes.
-    pub(crate) fn of(alloc: Global, change: Change) -> Result<Self, OutOfMemory>
-        ensures objects { IfOk result (λ objects. objects ≡ folded_all finite.empty change) }
+    pub(crate) fn of(alloc: Global, change: &'c Change) -> Result<Self, OutOfMemory>
+        ensures objects { IfOk result (λ objects. objects ≡ folded_all finite.empty change.now) }
     {
-        let relations = relations_of(alloc, &change)?;
+        let relations = relations_of(alloc, change)?;
         let nodes = place_of(change.entries(), 0, Kind::Way, 0);
         Ok(Self {
             change,
@@ -101,7 +101,7 @@ fn place_at(entries: &[Entry], start: usize, id: u64) -> Option<Place>
     }
 }
 
-impl Lookup for NewObjects {
+impl Lookup for NewObjects<'_> {
     ghost known = { known_of };
 
     fn place_of(&self, id: u64) -> Option<Place> {

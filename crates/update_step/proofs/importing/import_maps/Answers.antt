@@ -16,10 +16,10 @@ use Rattle.update_step.proofs.importing.import_maps.Goals as goal
 pub put_all-requires-clause-kept : goal.put_all-requires-clause-kept
 put_all-requires-clause-kept g c =
     let first = c.args.store.now in
-    let style = g.met.S.MapStore.same_style first c.add_entries.new.store
-    (c.add_entries.ensures.sets.looked first (g.met.S.MapStore.looked_none first)) ∙ c.requires.style in
+    let style = g.met.S.MapStore.same_style first c.add_beside-added.new.store
+    (c.add_beside-added.ensures.sets.looked first (g.met.S.MapStore.looked_none first)) ∙ c.requires.style in
     subst (λ (own : StyleOf). AllByRecursion (MayKeep own.tables) c.as_slice.result.now) (sym style)
-    (subst (AllByRecursion (MayKeep c.args.style.now.tables)) (sym c.as_slice.ensures.items) c.in_ok-rows.ensures.kept)
+    (subst (AllByRecursion (MayKeep c.args.style.now.tables)) (sym c.as_slice.ensures.items) (search rules))
 
 pub returns-in-Ok-clause-stands : goal.returns-in-Ok-clause-stands
 returns-in-Ok-clause-stands g c under held =
@@ -27,8 +27,8 @@ returns-in-Ok-clause-stands g c under held =
     let keys : List KeyOf = keys_of c.in_ok-keys.keys.set in
     let rows : KeyOf → List TableRow = rows_in style (folded_all finite.empty c.args.change) in
     let changed : Maps = change_on empty_maps c.args.change in
-    let read : g.S.MapStore.holds c.add_entries.new.store under changed = search (rules, held) in
-    let are : c.as_slice.result.now ≡ map rows keys = c.as_slice.ensures.items ∙ c.in_ok-rows.ensures.rows in (
+    let read : g.S.MapStore.holds c.add_beside-added.new.store under changed = search (rules, held) in
+    let are : c.as_slice.result.now ≡ map rows keys = c.as_slice.ensures.items ∙ search rules in (
       appended empty_maps c.args.change rows keys,
       c.in-Ok.ensures.holds under changed rows are (lacks-first rows c.args.change) read,
       imported-stands style c.args.change keys c.entries-entries.ensures.rise c.in_ok-keys.ensures.keys,
@@ -39,6 +39,6 @@ returns-clause-allowed g c under held =
     let keys : List KeyOf = keys_of c.in_ok-keys.keys.set in
     let rows : KeyOf → List TableRow = rows_in c.args.style.now (folded_all finite.empty c.args.change) in
     let changed : Maps = change_on empty_maps c.args.change in
-    let read : g.S.MapStore.holds c.add_entries.new.store under changed = search (rules, held) in
-    let are : c.as_slice.result.now ≡ map rows keys = c.as_slice.ensures.items ∙ c.in_ok-rows.ensures.rows in
+    let read : g.S.MapStore.holds c.add_beside-added.new.store under changed = search (rules, held) in
+    let are : c.as_slice.result.now ≡ map rows keys = c.as_slice.ensures.items ∙ search rules in
     c.in-Err.ensures.allowed under changed rows are (lacks-first rows c.args.change) read

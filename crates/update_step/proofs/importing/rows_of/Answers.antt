@@ -15,7 +15,7 @@ returns-clause-rows g c =
     let style = c.args.style.now in
     let keys : List KeyOf = keys_of c.args.keys.now.set in
     let objects : ObjectSet = c.in_ok-objects.objects in
-    let objects_are : objects ≡ folded_all finite.empty c.args.change = c.in_ok-objects.ensures.objects in
+    let objects_are : objects ≡ folded_all finite.empty c.args.change.now = c.in_ok-objects.ensures.objects in
     c.in_ok-rows.ensures.rows ∙ known-rows style objects keys ∙ ap (λ (own : ObjectSet). map (rows_in style own) keys) objects_are
 
 pub returns-clause-kept : goal.returns-clause-kept

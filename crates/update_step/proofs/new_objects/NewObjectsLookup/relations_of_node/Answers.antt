@@ -9,5 +9,5 @@ pub returns-clause-relations : goal.returns-clause-relations
 returns-clause-relations c =
     c.relations_of_node.ensures.relations
     ∙ ap (λ (own : ObjectSet). ids_of Relation Node c.args.id own) c.self.invariant
-    ∙ relations-are c.self.inside.change Node c.args.id
+    ∙ relations-are c.self.inside.change.now Node c.args.id
     ∙ ap (λ (own : ObjectSet). ids_of Relation Node c.args.id own) c.self.view_is
