@@ -111,9 +111,7 @@ impl Seen {
     pub fn new() -> Self
         ensures none { (letter : Letter) → stands result letter ≡ false }
     {
-        Self {
-            flags: [false; 16],
-        }
+        Self { flags: [false; 16] }
     }
 
     /// Whether the letter stood before; it stands from now on.
