@@ -11,21 +11,20 @@ use Rattle.outside.specs.Inputs.{FilesView}
 use Rattle.object_fold.specs.declared.fault.FileFault.{FileFault}
 use Rattle.object_fold.specs.declared.fault.FileFault.TheVariants as faults
 use Rattle.object_fold.specs.declared.lots.LotReader.{LotReader}
-use Rattle.object_fold.specs.declared.parts.Part.{Part}
+use Rattle.object_fold.specs.declared.passed.Passed.{Passed}
 use Rattle.object_fold.specs.declared.progress.Progress.{Progress}
 use Rattle.object_fold.specs.declared.scan.TheConstants.{PIECE}
 use Rattle.object_fold.specs.Entries.{entries_of}
-use Rattle.object_fold.specs.Keeps.{kept_all, pushed}
+use Rattle.object_fold.specs.Keeps.{kept_all}
 use Rattle.object_fold.specs.Lots.{ReadsNoFurtherThan, ReadsBehind, HasLines, HasLots, HasCome, IsAtEnd}
-use Rattle.object_fold.specs.Parts.{none_passed, in_front_all, comes_to, TakesLines}
+use Rattle.object_fold.specs.Parts.{none_passed, keeps_to, TakesLines}
 use Rattle.object_fold.specs.Progress.{entries_from, entries_left, HasRead, ReadsOn, IsKeptFault}
-use Rattle.object_fold.specs.Reading.{ReadsAtMost, ReadsNoOther, HasEntries, ReadsNoFurther, IsFaultOf, LeavesOpen}
+use Rattle.object_fold.specs.Reading.{ReadsAll, ReadsAtMost, ReadsNoOther, ReadsNoFurther, IsFaultOf, LeavesOpen}
 use Rattle.object_fold.specs.Stops.{Stops}
 use Rattle.object_fold.specs.Whole.{MovesBytes}
 use Rattle.object_fold.proofs.Lines.{entries_from-none}
 use Rattle.object_fold.proofs.Undecided.{LeavesOpen-none}
-use Rattle.object_fold.proofs.WholeFile.{entries_of-start, fold-pushed, kept_all-err, kept_all-pushed}
-use Rattle.object_fold.proofs.PartLaws.{in_front_none}
+use Rattle.object_fold.proofs.WholeFile.{entries_of-start, kept_all-err}
 use Rattle.opl_lines.proofs.LineLemmas.{lines_of-none}
 
 -- causes
@@ -107,90 +106,92 @@ moves_behind old now most count (Some all) (Some bytes) (Some later) few so_far 
 
 -- how far a file was read
 
-module _ (limits : LimitNumbers) where
-  open_front : (done : Part) (front : List ℕ) → ((rest : List ℕ) → entries_of limits (front ++ rest) ≡ comes_to limits done rest)
+module _ {K : Type 0} (after : K → Entry → K) (limits : LimitNumbers) (first : K) where
+  open_front : (passed : Passed) (keeper : K) (front : List ℕ)
+      → ((rest : List ℕ) → kept_all after first (entries_of limits (front ++ rest)) ≡ keeps_to after limits passed keeper rest)
       → LeavesOpen limits front
-  open_front done front same fault certain =
-      let none : comes_to limits done [] ≡ Ok (done.change ++ []) =
-      ap (λ lines. in_front_all done.change (entries_from limits done.passed lines)) lines_of-none
-      ∙ ap (in_front_all done.change) (entries_from-none limits done.passed) in
-      let wrong : ◌≡◌ {A = Result (List Entry) FileFault} (Ok (done.change ++ [])) (Err fault) = sym none ∙ sym (same []) ∙ certain [] in
+  open_front passed keeper front same fault certain =
+      let none : keeps_to after limits passed keeper [] ≡ Ok keeper =
+      ap (λ lines. kept_all after keeper (entries_from limits passed lines)) lines_of-none
+      ∙ ap (kept_all after keeper) (entries_from-none limits passed) in
+      let wrong : ◌≡◌ {A = Result K FileFault} (Ok keeper) (Err fault) =
+      sym none ∙ sym (same []) ∙ ap (kept_all after first) (certain []) in
       absurd (cc)
 
-  pub lots_none : (done : Part) (kept : List ℕ) → done ≡ record { passed = none_passed; change = [] } → kept ≡ []
-      → (left : Option (List ℕ)) → HasLots limits done kept left left
-  lots_none done kept none empty None = tt
-  lots_none done kept none empty (Some bytes) = record {
+  pub lots_none : (passed : Passed) (kept : List ℕ) → passed ≡ none_passed → kept ≡ [] → (left : Option (List ℕ))
+      → HasLots after limits first passed first kept left left
+  lots_none passed kept none empty None = tt
+  lots_none passed kept none empty (Some bytes) = record {
     front = [];
     parts = ap (λ own. own ++ bytes) (sym empty);
-    same = λ rest. sym (entries_of-start limits none_passed rest refl) ∙ in_front_none (entries_from limits none_passed (lines_of rest))
-        ∙ ap (λ own. comes_to limits own rest) (sym none);
+    same = λ rest. ap (kept_all after first) (sym (entries_of-start limits none_passed rest refl))
+        ∙ ap (λ own. keeps_to after limits own first rest) (sym none);
   }
 
-  pub lots_stop : (done : Part) (kept : List ℕ) (most : ℕ) (start left : Option (List ℕ)) → HasLots limits done kept start left
+  pub lots_stop : (passed : Passed) (keeper : K) (kept : List ℕ) (most : ℕ) (start left : Option (List ℕ)) → HasLots after limits first passed keeper kept start left
       → length kept ≤ most → ReadsNoFurtherThan most limits start left
-  lots_stop done kept most None left has few = tt
-  lots_stop done kept most (Some all) None has few = has
-  lots_stop done kept most (Some all) (Some bytes) has few = record {
+  lots_stop passed keeper kept most None left has few = tt
+  lots_stop passed keeper kept most (Some all) None has few = has
+  lots_stop passed keeper kept most (Some all) (Some bytes) has few = record {
     before = has.front;
     last = kept;
     parts = has.parts;
-    undecided = open_front done has.front has.same;
+    undecided = open_front passed keeper has.front has.same;
     few = few;
   }
 
   -- more is read behind a lot that waits
 
-  pub fill_stop : (done : Part) (before kept : List ℕ) (most each : ℕ) (start left rest : Option (List ℕ))
-      → HasLots limits done (before ++ kept) start left → ReadsBehind each kept left rest → length before + each ≤ most
+  pub fill_stop : (passed : Passed) (keeper : K) (before kept : List ℕ) (most each : ℕ) (start left rest : Option (List ℕ))
+      → HasLots after limits first passed keeper (before ++ kept) start left → ReadsBehind each kept left rest → length before + each ≤ most
       → ReadsNoFurtherThan most limits start rest
-  fill_stop done before kept most each None left rest has read few = tt
-  fill_stop done before kept most each (Some all) None rest has read few = absurd has
-  fill_stop done before kept most each (Some all) (Some bytes) None has read few = read
-  fill_stop done before kept most each (Some all) (Some bytes) (Some later) has read few = record {
+  fill_stop passed keeper before kept most each None left rest has read few = tt
+  fill_stop passed keeper before kept most each (Some all) None rest has read few = absurd has
+  fill_stop passed keeper before kept most each (Some all) (Some bytes) None has read few = read
+  fill_stop passed keeper before kept most each (Some all) (Some bytes) (Some later) has read few = record {
     before = has.front;
     last = before ++ read.0;
     parts = has.parts ∙ ap (λ own. has.front ++ own) (append_assoc before kept bytes ∙ ap (λ own. before ++ own) read.1
         ∙ sym (append_assoc before read.0 later));
-    undecided = open_front done has.front has.same;
+    undecided = open_front passed keeper has.front has.same;
     few = omega (arith, few, read.2, length-append before read.0);
   }
 
-  filled_lines : (done : Part) (before old new : List ℕ) (more : Bool) (start left rest : Option (List ℕ))
-      → HasLots limits done (before ++ old) start left → MovesBytes old new more left rest → HasLots limits done (before ++ new) start rest
-  filled_lines done before old new more None left rest has moves = tt
-  filled_lines done before old new more (Some all) None rest has moves = absurd has
-  filled_lines done before old new more (Some all) (Some bytes) None has moves = moves
-  filled_lines done before old new more (Some all) (Some bytes) (Some later) has moves = record {
+  filled_lines : (passed : Passed) (keeper : K) (before old new : List ℕ) (more : Bool) (start left rest : Option (List ℕ))
+      → HasLots after limits first passed keeper (before ++ old) start left → MovesBytes old new more left rest → HasLots after limits first passed keeper (before ++ new) start rest
+  filled_lines passed keeper before old new more None left rest has moves = tt
+  filled_lines passed keeper before old new more (Some all) None rest has moves = absurd has
+  filled_lines passed keeper before old new more (Some all) (Some bytes) None has moves = moves
+  filled_lines passed keeper before old new more (Some all) (Some bytes) (Some later) has moves = record {
     front = has.front;
     parts = has.parts ∙ ap (λ own. has.front ++ own) (append_assoc before old bytes ∙ ap (λ own. before ++ own) moves.0
         ∙ sym (append_assoc before new later));
     same = has.same;
   }
 
-  filled_end : (done : Part) (kept old new : List ℕ) (more : Bool) (start left rest : Option (List ℕ)) → HasLots limits done kept start left
+  filled_end : (passed : Passed) (keeper : K) (kept old new : List ℕ) (more : Bool) (start left rest : Option (List ℕ)) → HasLots after limits first passed keeper kept start left
       → MovesBytes old new more left rest → more ≡ false → IsAtEnd start rest
-  filled_end done kept old new more None left rest has moves none = tt
-  filled_end done kept old new more (Some all) None rest has moves none = absurd has
-  filled_end done kept old new more (Some all) (Some bytes) None has moves none = moves
-  filled_end done kept old new more (Some all) (Some bytes) (Some later) has moves none = moves.1 none
+  filled_end passed keeper kept old new more None left rest has moves none = tt
+  filled_end passed keeper kept old new more (Some all) None rest has moves none = absurd has
+  filled_end passed keeper kept old new more (Some all) (Some bytes) None has moves none = moves
+  filled_end passed keeper kept old new more (Some all) (Some bytes) (Some later) has moves none = moves.1 none
 
-  pub filled : (done : Part) (before old new : List ℕ) (more : Bool) (start left rest : Option (List ℕ))
-      → HasLots limits done (before ++ old) start left → MovesBytes old new more left rest
-      → HasCome limits done (before ++ new) more start rest
-  filled done before old new more start left rest has moves = record {
-    lots = filled_lines done before old new more start left rest has moves;
-    ended = filled_end done (before ++ old) old new more start left rest has moves;
+  pub filled : (passed : Passed) (keeper : K) (before old new : List ℕ) (more : Bool) (start left rest : Option (List ℕ))
+      → HasLots after limits first passed keeper (before ++ old) start left → MovesBytes old new more left rest
+      → HasCome after limits first passed keeper (before ++ new) more start rest
+  filled passed keeper before old new more start left rest has moves = record {
+    lots = filled_lines passed keeper before old new more start left rest has moves;
+    ended = filled_end passed keeper (before ++ old) old new more start left rest has moves;
   }
 
   -- of the lot that waits lines are taken
 
-  taken_lines : (old new : Part) (bytes kept : List ℕ) (used : ℕ) (start left : Option (List ℕ))
-      → HasLots limits old (bytes ++ kept) start left → TakesLines limits old (take used bytes) new []
-      → HasLots limits new (drop used bytes ++ kept) start left
-  taken_lines old new bytes kept used None left has takes = tt
-  taken_lines old new bytes kept used (Some all) None has takes = has
-  taken_lines old new bytes kept used (Some all) (Some more) has takes =
+  taken_lines : (old : Passed) (given : K) (new : Passed) (keeper : K) (bytes kept : List ℕ) (used : ℕ) (start left : Option (List ℕ))
+      → HasLots after limits first old given (bytes ++ kept) start left → TakesLines after limits old given (take used bytes) new keeper []
+      → HasLots after limits first new keeper (drop used bytes ++ kept) start left
+  taken_lines old given new keeper bytes kept used None left has takes = tt
+  taken_lines old given new keeper bytes kept used (Some all) None has takes = has
+  taken_lines old given new keeper bytes kept used (Some all) (Some more) has takes =
       let front = take used bytes in
       let rest = drop used bytes in
       record {
@@ -199,89 +200,82 @@ module _ (limits : LimitNumbers) where
             ∙ ap (λ own. has.front ++ (own ++ more)) (append_assoc front rest kept)
             ∙ ap (λ own. has.front ++ own) (append_assoc front (rest ++ kept) more)
             ∙ sym (append_assoc has.front front ((rest ++ kept) ++ more));
-        same = λ own. ap (entries_of limits) (append_assoc has.front front own) ∙ has.same (front ++ own) ∙ takes own;
+        same = λ own. ap (λ all. kept_all after first (entries_of limits all)) (append_assoc has.front front own) ∙ has.same (front ++ own) ∙ takes own;
       }
 
-  pub taken : (old new : Part) (bytes kept : List ℕ) (more : Bool) (used : ℕ) (start left : Option (List ℕ))
-      → HasCome limits old (bytes ++ kept) more start left → TakesLines limits old (take used bytes) new []
-      → HasCome limits new (drop used bytes ++ kept) more start left
-  taken old new bytes kept more used start left has takes =
-      record { lots = taken_lines old new bytes kept used start left has.lots takes; ended = has.ended }
+  pub taken : (old : Passed) (given : K) (new : Passed) (keeper : K) (bytes kept : List ℕ) (more : Bool) (used : ℕ) (start left : Option (List ℕ))
+      → HasCome after limits first old given (bytes ++ kept) more start left → TakesLines after limits old given (take used bytes) new keeper []
+      → HasCome after limits first new keeper (drop used bytes ++ kept) more start left
+  taken old given new keeper bytes kept more used start left has takes =
+      record { lots = taken_lines old given new keeper bytes kept used start left has.lots takes; ended = has.ended }
 
 -- one reader goes on
 
-kept_both : (front : List Entry) (more : Result (List Entry) FileFault)
-    → kept_all pushed [] (in_front_all front more) ≡ kept_all pushed front more
-kept_both front (Ok more) = ap Ok (fold-pushed [] (front ++ more) ∙ sym (fold-pushed front more))
-kept_both front (Err fault) = refl
+module _ {K : Type 0} (after : K → Entry → K) (limits : LimitNumbers) (whole : K) (reader : LotReader) (given : K) (first : Progress)
+    (behind : (bytes : List ℕ) → entries_left limits first bytes ≡ entries_from limits reader.passed (lines_of bytes)) where
+  begins : (all bytes : List ℕ) (has : HasLines after limits whole reader.passed given reader.kept.items all bytes) (rest : List ℕ)
+      → kept_all after whole (entries_of limits (has.front ++ rest)) ≡ kept_all after given (entries_left limits first rest)
+  begins all bytes has rest = has.same rest ∙ ap (kept_all after given) (sym (behind rest))
 
-module _ (limits : LimitNumbers) (reader : LotReader) (first : Progress)
-    (behind : (bytes : List ℕ) → entries_left limits first bytes ≡ entries_from limits reader.done.passed (lines_of bytes)) where
-  begins : (all bytes : List ℕ) (has : HasLines limits reader.done reader.kept.items all bytes) (rest : List ℕ)
-      → kept_all pushed [] (entries_of limits (has.front ++ rest)) ≡ kept_all pushed reader.done.change (entries_left limits first rest)
-  begins all bytes has rest =
-      ap (kept_all pushed []) (has.same rest) ∙ kept_both reader.done.change (entries_from limits reader.done.passed (lines_of rest))
-      ∙ ap (kept_all pushed reader.done.change) (sym (behind rest))
-
-  pub goes_on : (progress : Progress) (change : List Entry) → ((later : List ℕ)
-      → kept_all pushed reader.done.change (entries_left limits first (reader.kept.items ++ later))
-      ≡ kept_all pushed change (entries_left limits progress later))
-      → (start left : Option (List ℕ)) → HasLots limits reader.done reader.kept.items start left → HasRead pushed limits [] progress change start left
-  goes_on progress change takes None left has = tt
-  goes_on progress change takes (Some all) None has = has
-  goes_on progress change takes (Some all) (Some bytes) has = record {
+  pub goes_on : (progress : Progress) (now : K) → ((later : List ℕ)
+      → kept_all after given (entries_left limits first (reader.kept.items ++ later)) ≡ kept_all after now (entries_left limits progress later))
+      → (start left : Option (List ℕ)) → HasLots after limits whole reader.passed given reader.kept.items start left
+      → HasRead after limits whole progress now start left
+  goes_on progress now takes None left has = tt
+  goes_on progress now takes (Some all) None has = has
+  goes_on progress now takes (Some all) (Some bytes) has = record {
     front = has.front ++ reader.kept.items;
     parts = has.parts ∙ sym (append_assoc has.front reader.kept.items bytes);
-    same = λ rest. ap (λ own. kept_all pushed [] (entries_of limits own)) (append_assoc has.front reader.kept.items rest)
+    same = λ rest. ap (λ own. kept_all after whole (entries_of limits own)) (append_assoc has.front reader.kept.items rest)
         ∙ begins all bytes has (reader.kept.items ++ rest) ∙ takes rest;
   }
 
   pub stops_on : (fault : FileFault) → ((later : List ℕ)
-      → kept_all pushed reader.done.change (entries_left limits first (reader.kept.items ++ later)) ≡ Err fault)
-      → (start left : Option (List ℕ)) → HasLots limits reader.done reader.kept.items start left → IsFaultOf limits start fault
+      → kept_all after given (entries_left limits first (reader.kept.items ++ later)) ≡ Err fault)
+      → (start left : Option (List ℕ)) → HasLots after limits whole reader.passed given reader.kept.items start left
+      → IsFaultOf limits start fault
   stops_on fault stops None left has = tt
   stops_on fault stops (Some all) None has = absurd has
   stops_on fault stops (Some all) (Some bytes) has =
-      kept_all-err pushed [] (entries_of limits all) fault
-      (ap (λ own. kept_all pushed [] (entries_of limits own)) has.parts ∙ begins all bytes has (reader.kept.items ++ bytes) ∙ stops bytes)
+      kept_all-err after whole (entries_of limits all) fault
+      (ap (λ own. kept_all after whole (entries_of limits own)) has.parts ∙ begins all bytes has (reader.kept.items ++ bytes) ∙ stops bytes)
 
-module _ (limits : LimitNumbers) (progress : Progress) (change : List Entry) where
-  pub ends_well : (entries : List Entry) → kept_all pushed change (entries_left limits progress []) ≡ Ok entries
-      → (start left : Option (List ℕ)) → IsAtEnd start left → HasRead pushed limits [] progress change start left
-      → HasEntries limits entries start left
-  ends_well entries is None left end read = tt
-  ends_well entries is (Some all) None end read = read
-  ends_well entries is (Some all) (Some bytes) end read = (
-    kept_all-pushed (entries_of limits all) entries
-        (ap (λ own. kept_all pushed [] (entries_of limits own)) read.parts ∙ read.same bytes
-        ∙ ap (λ own. kept_all pushed change (entries_left limits progress own)) end ∙ is),
+module _ {K : Type 0} (after : K → Entry → K) (limits : LimitNumbers) (whole : K) (progress : Progress) (now : K) where
+  pub ends_well : (last : K) → kept_all after now (entries_left limits progress []) ≡ Ok last
+      → (start left : Option (List ℕ)) → IsAtEnd start left → HasRead after limits whole progress now start left
+      → ReadsAll after limits whole last start left
+  ends_well last is None left end read = tt
+  ends_well last is (Some all) None end read = read
+  ends_well last is (Some all) (Some bytes) end read = (
+    ap (λ own. kept_all after whole (entries_of limits own)) read.parts ∙ read.same bytes
+        ∙ ap (λ own. kept_all after now (entries_left limits progress own)) end ∙ is,
     end,
   )
 
-  pub stops_reading : (fault : FileFault) (start left : Option (List ℕ)) → HasRead pushed limits [] progress change start left
-      → IsKeptFault pushed limits progress change left fault → IsFaultOf limits start fault
+  pub stops_reading : (fault : FileFault) (start left : Option (List ℕ)) → HasRead after limits whole progress now start left
+      → IsKeptFault after limits progress now left fault → IsFaultOf limits start fault
   stops_reading fault None left read is = tt
   stops_reading fault (Some all) None read is = absurd read
-  stops_reading fault (Some all) (Some bytes) read is = kept_all-err pushed [] (entries_of limits all) fault
-      (ap (λ own. kept_all pushed [] (entries_of limits own)) read.parts ∙ read.same bytes ∙ is)
+  stops_reading fault (Some all) (Some bytes) read is = kept_all-err after whole (entries_of limits all) fault
+      (ap (λ own. kept_all after whole (entries_of limits own)) read.parts ∙ read.same bytes ∙ is)
 
-  pub stops_ending : (fault : FileFault) → kept_all pushed change (entries_left limits progress []) ≡ Err fault
-      → (start left : Option (List ℕ)) → IsAtEnd start left → HasRead pushed limits [] progress change start left
+  pub stops_ending : (fault : FileFault) → kept_all after now (entries_left limits progress []) ≡ Err fault
+      → (start left : Option (List ℕ)) → IsAtEnd start left → HasRead after limits whole progress now start left
       → IsFaultOf limits start fault
   stops_ending fault is None left end read = tt
   stops_ending fault is (Some all) None end read = absurd read
-  stops_ending fault is (Some all) (Some bytes) end read = kept_all-err pushed [] (entries_of limits all) fault
-      (ap (λ own. kept_all pushed [] (entries_of limits own)) read.parts ∙ read.same bytes
-      ∙ ap (λ own. kept_all pushed change (entries_left limits progress own)) end ∙ is)
+  stops_ending fault is (Some all) (Some bytes) end read = kept_all-err after whole (entries_of limits all) fault
+      (ap (λ own. kept_all after whole (entries_of limits own)) read.parts ∙ read.same bytes
+      ∙ ap (λ own. kept_all after now (entries_left limits progress own)) end ∙ is)
 
 -- where one more read gives nothing the file is at its end
-pub read_to_end : (limits : LimitNumbers) (old new : Progress) (before now : List Entry) (more : Bool) (start left rest : Option (List ℕ))
-    → HasRead pushed limits [] old before start left → ReadsOn pushed limits old before new now more left rest → more ≡ false
-    → IsAtEnd start rest
-read_to_end limits old new before now more None left rest read on none = tt
-read_to_end limits old new before now more (Some all) None rest read on none = absurd read
-read_to_end limits old new before now more (Some all) (Some bytes) None read on none = on
-read_to_end limits old new before now more (Some all) (Some bytes) (Some later) read on none = on.1 none
+pub read_to_end : {K : Type 0} (after : K → Entry → K) (limits : LimitNumbers) (whole : K) (old new : Progress) (before now : K) (more : Bool)
+    (start left rest : Option (List ℕ)) → HasRead after limits whole old before start left
+    → ReadsOn after limits old before new now more left rest → more ≡ false → IsAtEnd start rest
+read_to_end after limits whole old new before now more None left rest read on none = tt
+read_to_end after limits whole old new before now more (Some all) None rest read on none = absurd read
+read_to_end after limits whole old new before now more (Some all) (Some bytes) None read on none = on
+read_to_end after limits whole old new before now more (Some all) (Some bytes) (Some later) read on none = on.1 none
 
 -- no further than a read is no further than more than a read
 pub no_further : (limits : LimitNumbers) (most : ℕ) (start rest : Option (List ℕ)) → PIECE ≤ most → ReadsNoFurther limits start rest

@@ -2,8 +2,9 @@
 use Rattle.std.proofs.Common.{◌≡◌, ℕ, suc, zero, ◌+◌, ◌<◌, ◌≤◌, Bool, true, false, nat_lt, nat_le, Option, Some, None, List, [], ◌∷◌}
 use Rattle.std.proofs.Common.{◌++◌, length, length-append, take, drop, append_assoc, refl, sym, ◌∙◌, ap, subst, arith}
 use Rattle.std.proofs.lemmas.Bool.{le-leb}
+use Rattle.std.proofs.lemmas.Grind.{fold-append}
 use Rattle.std.proofs.lemmas.List.{append-nil, drop-drop, drop-take, length-drop, length-take-le, take-take}
-use Rattle.std.specs.Prelude.{Result, Ok, Err}
+use Rattle.std.specs.Prelude.{Result, Ok, Err, fold}
 use Rattle.std.specs.List.{cons_option}
 use Rattle.std.specs.Option.{option_len, option_or}
 use Rattle.osm_base.specs.declared.bounds.limits.LimitNumbers.{LimitNumbers}
@@ -22,8 +23,9 @@ use Rattle.object_fold.specs.declared.parts.Share.{Share}
 use Rattle.object_fold.specs.declared.passed.Passed.{Passed}
 use Rattle.object_fold.specs.Change.{Follows, FollowsAll, IsChange, RiseFrom, last_key}
 use Rattle.object_fold.specs.Entries.{unless}
+use Rattle.object_fold.specs.Keeps.{kept_all}
 use Rattle.object_fold.specs.Passed.{spelled, entry_in, order_fault, count_fault, said_fault, text_fault, line_fault}
-use Rattle.object_fold.specs.Parts.{none_passed, behind, passed_all, in_front_all, comes_to, IsPart, TakesLines, AreShares, bytes_in}
+use Rattle.object_fold.specs.Parts.{none_passed, behind, passed_all, in_front_all, keeps_to, IsPart, TakesLines, AreShares, bytes_in}
 use Rattle.object_fold.specs.Progress.{last_of, passed_line, in_front, entries_from}
 use Rattle.object_fold.proofs.Lines.{entries_from-next, entries_from-none}
 use Rattle.object_fold.proofs.WholeFile.{last_key-more}
@@ -298,10 +300,15 @@ behind_none : (before : Passed) → behind before none_passed ≡ before
 behind_none before = same_passed (before.lines + 0) before.lines (before.entries + 0) before.entries before.last before.last
     (omega arith) (omega arith) refl
 
-pub adds : (limits : LimitNumbers) (before own : Part) (bytes : List ℕ) → IsPart limits bytes own
+-- what a file comes to that has these lines, and behind them these bytes
+abbrev comes_to : LimitNumbers → Part → List ℕ → Result (List Entry) FileFault
+comes_to limits part bytes = in_front_all part.change (entries_from limits part.passed (lines_of bytes))
+
+adds : (limits : LimitNumbers) (before own : Part) (bytes : List ℕ) → IsPart limits bytes own
     → before.passed.lines + own.passed.lines ≤ limits.lines → before.passed.entries + length own.change ≤ limits.entries
     → FollowsAll before.passed.last own.change
-    → TakesLines limits before bytes (record { passed = behind before.passed own.passed; change = before.change ++ own.change }) []
+    → (later : List ℕ) → comes_to limits before (bytes ++ later)
+    ≡ comes_to limits (record { passed = behind before.passed own.passed; change = before.change ++ own.change }) later
 adds limits before own bytes part counted few first =
     let is : entries_from limits none_passed part.own ≡ Ok own.change = ap (entries_from limits none_passed) (sym (append-nil part.own))
     ∙ part.read [] ∙ ap (in_front_all own.change) (entries_from-none limits own.passed) ∙ ap Ok (append-nil own.change) in
@@ -319,10 +326,6 @@ adds limits before own bytes part counted few first =
 
 -- the last key of both
 
-last_key-append : (before : Option KeyOf) (one other : List Entry) → last_key before (one ++ other) ≡ last_key (last_key before one) other
-last_key-append before [] other = refl
-last_key-append before (entry ∷ one) other = last_key-append (Some entry.key) one other
-
 last_key-some : (key : KeyOf) (before : Option KeyOf) (entries : List Entry)
     → last_key (Some key) entries ≡ option_or (last_key (Some key) entries) before
 last_key-some key before [] = refl
@@ -332,22 +335,34 @@ last_key-or : (before : Option KeyOf) (entries : List Entry) → last_key before
 last_key-or before [] = refl
 last_key-or before (entry ∷ entries) = last_key-some entry.key before entries
 
-pub last_of_both : (before own : Part) → before.passed.last ≡ last_key None before.change → own.passed.last ≡ last_key None own.change
-    → option_or own.passed.last before.passed.last ≡ last_key None (before.change ++ own.change)
-last_of_both before own is are =
-    ap (λ last. option_or last before.passed.last) are ∙ ap (option_or (last_key None own.change)) is
-    ∙ sym (last_key-or (last_key None before.change) own.change) ∙ sym (last_key-append None before.change own.change)
+module _ {K : Type 0} (after : K → Entry → K) where
+  kept_front : (keeper : K) (front : List Entry) (more : Result (List Entry) FileFault)
+      → kept_all after keeper (in_front_all front more) ≡ kept_all after (fold after keeper front) more
+  kept_front keeper front (Ok more) = ap Ok (fold-append after keeper front more)
+  kept_front keeper front (Err fault) = refl
+
+  pub adds_to : (limits : LimitNumbers) (before : Passed) (keeper : K) (own : Part) (bytes : List ℕ) → IsPart limits bytes own
+      → before.lines + own.passed.lines ≤ limits.lines → before.entries + length own.change ≤ limits.entries
+      → FollowsAll before.last own.change
+      → TakesLines after limits before keeper bytes (record {
+        lines = before.lines + own.passed.lines;
+        entries = before.entries + own.passed.entries;
+        last = last_key before.last own.change;
+      }) (fold after keeper own.change) []
+  adds_to limits before keeper own bytes part counted few first = λ later.
+      let last : option_or own.passed.last before.last ≡ last_key before.last own.change =
+      ap (λ last. option_or last before.last) part.last ∙ sym (last_key-or before.last own.change) in
+      ap (kept_all after keeper) (in_front_none (entries_from limits before (lines_of (bytes ++ later)))
+      ∙ adds limits (record { passed = before; change = [] }) own bytes part counted few first later)
+      ∙ kept_front keeper own.change (entries_from limits (behind before own.passed) (lines_of later))
+      ∙ ap (λ passed. kept_all after (fold after keeper own.change) (entries_from limits passed (lines_of later)))
+      (same_passed _ _ _ _ _ _ refl refl last)
 
 -- entries that come after others rise with them
 
-rise_behind : (last : Option KeyOf) (entries : List Entry) → IsChange entries → FollowsAll last entries → RiseFrom last entries
+pub rise_behind : (last : Option KeyOf) (entries : List Entry) → IsChange entries → FollowsAll last entries → RiseFrom last entries
 rise_behind last [] rise follows = tt
 rise_behind last (entry ∷ entries) rise follows = (rise.0, follows, rise.2)
-
-pub rise_both : (last : Option KeyOf) (one other : List Entry) → RiseFrom last one → IsChange other → FollowsAll (last_key last one) other
-    → RiseFrom last (one ++ other)
-rise_both last [] other rise more follows = rise_behind last other more follows
-rise_both last (entry ∷ one) other rise more follows = (rise.0, rise.1, rise_both (Some entry.key) one other rise.2 more follows)
 
 -- shares behind one another
 
@@ -362,12 +377,13 @@ take_more (suc used) len (byte ∷ bytes) =
     let next : suc used + len ≡ suc (used + len) = omega arith in
     rw next (ap (λ own. byte ∷ own) (take_more used len bytes))
 
-pub takes_share : (limits : LimitNumbers) (old now new : Part) (bytes : List ℕ) (used len : ℕ)
-    → TakesLines limits old (take used bytes) now [] → TakesLines limits now (take len (drop used bytes)) new []
-    → TakesLines limits old (take (used + len) bytes) new []
-takes_share limits old now new bytes used len so_far more = λ later.
-    ap (λ own. comes_to limits old (own ++ later)) (take_more used len bytes)
-    ∙ ap (comes_to limits old) (append_assoc (take used bytes) (take len (drop used bytes)) later)
+pub takes_share : {K : Type 0} (after : K → Entry → K) (limits : LimitNumbers) (old : Passed) (first : K) (now : Passed) (keeper : K)
+    (new : Passed) (next : K) (bytes : List ℕ) (used len : ℕ) → TakesLines after limits old first (take used bytes) now keeper []
+    → TakesLines after limits now keeper (take len (drop used bytes)) new next []
+    → TakesLines after limits old first (take (used + len) bytes) new next []
+takes_share after limits old first now keeper new next bytes used len so_far more = λ later.
+    ap (λ own. keeps_to after limits old first (own ++ later)) (take_more used len bytes)
+    ∙ ap (keeps_to after limits old first) (append_assoc (take used bytes) (take len (drop used bytes)) later)
     ∙ so_far (take len (drop used bytes) ++ later)
     ∙ more later
 

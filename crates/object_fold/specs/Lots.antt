@@ -3,13 +3,15 @@
 -- that are kept, of which no line was taken yet, and those that are left in the file.
 use Rattle.std.specs.Prelude.{◌≡◌, ◌≤◌, ◌<◌, ℕ, ◌+◌, ◌*◌, List, [], ◌++◌, length, Option, Bool, false}
 use Rattle.osm_base.specs.declared.bounds.limits.LimitNumbers.{LimitNumbers}
+use Rattle.osm_base.specs.declared.values.object.Entry.{Entry}
 use Rattle.outside.specs.Bytes.{BothKnown}
 use Rattle.object_fold.specs.declared.lots.LotReader.{LotReader}
-use Rattle.object_fold.specs.declared.parts.Part.{Part}
+use Rattle.object_fold.specs.declared.passed.Passed.{Passed}
 use Rattle.object_fold.specs.declared.scan.TheConstants.{PIECE}
 use Rattle.object_fold.specs.declared.waiting.Waiting.{Waiting}
 use Rattle.object_fold.specs.Entries.{entries_of}
-use Rattle.object_fold.specs.Parts.{AreShares, comes_to, StaysWithin}
+use Rattle.object_fold.specs.Keeps.{kept_all}
+use Rattle.object_fold.specs.Parts.{AreShares, keeps_to}
 use Rattle.object_fold.specs.Reading.{LeavesOpen}
 
 -- of these bytes those that come later were not read: so many at most were behind bytes that left each fault open
@@ -29,23 +31,27 @@ abbrev pub ReadsBehind : ℕ → List ℕ → Option (List ℕ) → Option (List
 ReadsBehind most kept left rest =
     BothKnown left rest (λ bytes later. (piece : List ℕ) × (kept ++ bytes ≡ piece ++ later) × (length piece ≤ most))
 
--- of the bytes of a file these lines were taken, behind them these bytes are kept, and the later ones are not read
-pub record HasLines (limits : LimitNumbers) (done : Part) (kept bytes later : List ℕ) : Type 0 where
+-- of the bytes of a file these lines were taken, behind them these bytes are kept, and the later ones are not read: the file makes of the
+-- first keeper what the rest of it makes of this one
+pub record HasLines {K : Type 0} (after : K → Entry → K) (limits : LimitNumbers) (first : K) (passed : Passed) (keeper : K)
+    (kept bytes later : List ℕ) : Type 0 where
   pub front : List ℕ
   pub parts : bytes ≡ front ++ (kept ++ later)
-  pub same : (rest : List ℕ) → entries_of limits (front ++ rest) ≡ comes_to limits done rest
+  pub same : (rest : List ℕ) → kept_all after first (entries_of limits (front ++ rest)) ≡ keeps_to after limits passed keeper rest
 
 -- so far was read since the start of the file: these lines were taken, and these bytes are kept
-abbrev pub HasLots : LimitNumbers → Part → List ℕ → Option (List ℕ) → Option (List ℕ) → Type 0
-HasLots limits done kept left rest = BothKnown left rest (λ bytes later. HasLines limits done kept bytes later)
+abbrev pub HasLots : {K : Type 0} → (K → Entry → K) → LimitNumbers → K → Passed → K → List ℕ → Option (List ℕ) → Option (List ℕ) → Type 0
+HasLots after limits first passed keeper kept left rest =
+    BothKnown left rest (λ bytes later. HasLines after limits first passed keeper kept bytes later)
 
 -- the file is at its end
 abbrev pub IsAtEnd : Option (List ℕ) → Option (List ℕ) → Type 0
 IsAtEnd left rest = BothKnown left rest (λ bytes later. later ≡ [])
 
 -- so far was read, and where no more comes the file is at its end
-pub record HasCome (limits : LimitNumbers) (done : Part) (kept : List ℕ) (more : Bool) (left rest : Option (List ℕ)) : Type 0 where
-  pub lots : HasLots limits done kept left rest
+pub record HasCome {K : Type 0} (after : K → Entry → K) (limits : LimitNumbers) (first : K) (passed : Passed) (keeper : K) (kept : List ℕ)
+    (more : Bool) (left rest : Option (List ℕ)) : Type 0 where
+  pub lots : HasLots after limits first passed keeper kept left rest
   pub ended : more ≡ false → IsAtEnd left rest
 
 -- the bytes of the lot that waits, and then those that were read behind it
@@ -60,13 +66,12 @@ most_of_lot reader = reader.lot + PIECE
 abbrev pub most_kept : LotReader → ℕ
 most_kept reader = 2 * most_of_lot reader
 
--- there are workers, room for a read, and no more bytes than there may be, and the lines keep the limits
-pub record IsAtWork (limits : LimitNumbers) (reader : LotReader) : Type 0 where
+-- there are workers, room for a read, and no more bytes than there may be
+pub record IsAtWork (reader : LotReader) : Type 0 where
   pub workers : 0 < reader.workers
   pub some : 0 < length reader.buffer.items
   pub room : length reader.buffer.items ≤ PIECE
   pub few : length reader.kept.items ≤ most_kept reader
-  pub within : StaysWithin limits reader.done
 
 -- of a lot that waits these are the shares, and neither it nor the one behind it is longer than a lot
 pub record Waits (limits : LimitNumbers) (waiting : Waiting) (reader : LotReader) : Type 0 where

@@ -5,14 +5,17 @@ use Rattle.std.specs.Prelude.{◌≡◌, ◌≤◌, ℕ, ◌+◌, List, [], ◌�
 use Rattle.std.specs.Option.{option_or}
 use Rattle.osm_base.specs.declared.bounds.limits.LimitNumbers.{LimitNumbers}
 use Rattle.osm_base.specs.declared.values.object.Entry.{Entry}
+use Rattle.osm_base.specs.values.Key.{KeyOf}
 use Rattle.opl_lines.specs.Lines.{lines_of}
 use Rattle.object_fold.specs.declared.fault.FileFault.{FileFault}
 use Rattle.object_fold.specs.declared.parts.Part.{Part}
 use Rattle.object_fold.specs.declared.parts.Share.{Share}
 use Rattle.object_fold.specs.declared.passed.Passed.{Passed}
 use Rattle.object_fold.specs.Change.{last_key}
+use Rattle.object_fold.specs.Keeps.{kept_all}
 use Rattle.object_fold.specs.Passed.{spelled}
 use Rattle.object_fold.specs.Progress.{entries_from, passed_line}
+use Rattle.object_fold.specs.Reading.{TakesNext}
 
 -- nothing stands before them
 abbrev pub none_passed : Passed
@@ -45,19 +48,20 @@ pub record IsPart (limits : LimitNumbers) (bytes : List ℕ) (part : Part) : Typ
   pub passed_are : passed_all none_passed own ≡ part.passed
   pub last : part.passed.last ≡ last_key None part.change
 
--- the lines keep the limits of a file, and the last key is that of the last entry
-pub record StaysWithin (limits : LimitNumbers) (part : Part) : Type 0 where
-  pub lines : part.passed.lines ≤ limits.lines
-  pub entries : part.passed.entries ≤ limits.entries
-  pub last : part.passed.last ≡ last_key None part.change
+-- the lines keep the limits of a file, and one who is given the entries may be given each that comes next
+pub record GoesOn {K : Type 0} (takes : K → KeyOf → Type 0) (limits : LimitNumbers) (passed : Passed) (keeper : K) : Type 0 where
+  pub lines : passed.lines ≤ limits.lines
+  pub entries : passed.entries ≤ limits.entries
+  pub next : TakesNext takes passed.last keeper
 
--- what a file comes to that has these lines, and behind them these bytes
-abbrev pub comes_to : LimitNumbers → Part → List ℕ → Result (List Entry) FileFault
-comes_to limits part bytes = in_front_all part.change (entries_from limits part.passed (lines_of bytes))
+-- what is made of a keeper by a file that has these lines, whose entries it was given, and behind them these bytes
+abbrev pub keeps_to : {K : Type 0} → (K → Entry → K) → LimitNumbers → Passed → K → List ℕ → Result K FileFault
+keeps_to after limits passed keeper bytes = kept_all after keeper (entries_from limits passed (lines_of bytes))
 
--- more lines were taken of the bytes behind these lines, so that the rest is left: whatever comes later, it comes to the same
-abbrev pub TakesLines : LimitNumbers → Part → List ℕ → Part → List ℕ → Type 0
-TakesLines limits old bytes new rest = (later : List ℕ) → comes_to limits old (bytes ++ later) ≡ comes_to limits new (rest ++ later)
+-- more lines were taken of the bytes behind these lines, so that the rest is left: whatever comes later, the same is made of the keeper
+abbrev pub TakesLines : {K : Type 0} → (K → Entry → K) → LimitNumbers → Passed → K → List ℕ → Passed → K → List ℕ → Type 0
+TakesLines after limits old before bytes new now rest =
+    (later : List ℕ) → keeps_to after limits old before (bytes ++ later) ≡ keeps_to after limits new now (rest ++ later)
 
 -- the share is whole lines at the front of this piece
 abbrev pub IsShareOf : LimitNumbers → List ℕ → Share → Type 0

@@ -1,8 +1,8 @@
 //! The entries of a file, kept.
-ghost use Rattle.std.specs.Prelude.{◌≡◌, ◌++◌, List, [], None, IsTrue, OnErr, OnOk};
+ghost use Rattle.std.specs.Prelude.{◌≡◌, List, [], None, IsTrue};
 ghost use Rattle.osm_base.specs.values.Key.{KeyOf};
 ghost use Rattle.osm_base.specs.values.KeyOrder.{is_below};
-ghost use Rattle.object_fold.specs.Change.{IsChange, IsProper, Follows, FollowsAll, last_key};
+ghost use Rattle.object_fold.specs.Change.{IsChange, IsProper, Follows, last_key};
 ghost use Rattle.object_fold.specs.Keeps.{pushed};
 
 use crate::Keeper;
@@ -48,17 +48,6 @@ impl Change {
         ensures rise { IsChange self.now }
     {
         self.entries.as_slice()
-    }
-
-    /// Adds the entries of another, which come after those that are there.
-    pub fn append(&mut self, more: Change) -> Result<(), OutOfMemory>
-        requires follows { FollowsAll (last_key None self.old) more }
-        ensures ok { OnOk result (self.new ≡ self.old ++ more) }
-        ensures err { OnErr result (self.new ≡ self.old) }
-    {
-        let Self { mut entries } = more;
-        self.entries.append(&mut entries)?;
-        Ok(())
     }
 
     /// The vector of the entries.

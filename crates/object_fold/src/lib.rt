@@ -2,8 +2,8 @@
 //!
 //! On the path of the data it stands behind the grammar of one line. `scan_file` reads a file to its end
 //! and gives each entry to a `Keeper`, or answers the first line that is not in its form or not in its
-//! order; `read_file` keeps the entries as a `Change`, whose keys rise. `read_all` gives a short file's
-//! bytes.
+//! order; `read_file` keeps the entries as a `Change`, whose keys rise. `scan_parallel` and
+//! `read_parallel` do the same by several workers. `read_all` gives a short file's bytes.
 //!
 //! `Objects` are the objects of a map by their keys, and `fold` makes of them what a change says, as
 //! `folded_all` of `specs/Fold.antt`. Beside them they keep the index: which ways list a node, and which
@@ -33,7 +33,7 @@ mod whole;
 pub use change::Change;
 pub use fault::FileFault;
 pub use keeper::Keeper;
-pub use lots::{LOT, read_by_lots, read_parallel};
+pub use lots::{LOT, read_by_lots, read_parallel, scan_by_lots, scan_parallel};
 pub use objects::{ObjectIndex, Objects};
 pub use rising_ids::RisingIds;
 pub use scan::{PIECE, read_file, scan_file};

@@ -1,20 +1,21 @@
 //! A file of entries, read by lots of bytes whose lines several workers read side by side.
-ghost use Rattle.std.specs.Prelude.{◌≡◌, ◌<◌, ◌≤◌, ◌+◌, ◌*◌, Bool, List, ℕ, [], Option, false, true, length, drop, take, IfOk, IfErr, OnOk, OnErr};
+ghost use Rattle.std.specs.Prelude.{◌≡◌, ◌<◌, ◌≤◌, ◌+◌, ◌*◌, Bool, List, ℕ, [], None, Option, false, true, length, drop, take, IfOk, IfErr, OnOk, OnErr};
 ghost use Rattle.osm_base.specs.declared.bounds.limits.LimitNumbers.{LimitNumbers};
 ghost use Rattle.outside.specs.Bytes.{IfTold};
 ghost use Rattle.outside.specs.Causes.{Rose};
 ghost use Rattle.object_fold.specs.Entries.{IsAccepted};
 ghost use Rattle.object_fold.specs.Lots.{HasCome, HasLots, IsAtWork, ReadsBehind, ReadsNoFurtherThan, Waits, all_kept, most_kept, most_of_lot};
-ghost use Rattle.object_fold.specs.Parts.{bytes_in};
-ghost use Rattle.object_fold.specs.Reading.{HasEntries, IsFaultOf, ReadsAtMost, ReadsNoOther, ReadsOnce};
+ghost use Rattle.object_fold.specs.Parts.{GoesOn, bytes_in, none_passed};
+ghost use Rattle.object_fold.specs.Reading.{HasEntries, IsFaultOf, ReadsAtMost, ReadsNoOther, ReadsAll, ReadsOnce, TakesNext};
 ghost use Rattle.object_fold.specs.Stops.{Stops};
 ghost use Rattle.object_fold.specs.Whole.{MovesBytes};
 
-use crate::parts::{Part, Share};
+use crate::parts::Share;
+use crate::passed::Passed;
 use crate::progress::Progress;
-use crate::scan::{PIECE, read_file, read_on};
+use crate::scan::{PIECE, read_on, scan_file};
 use crate::waiting::{Waiting, behind, read_beside};
-use crate::{Change, FileFault};
+use crate::{Change, FileFault, Keeper};
 use opl_lines::first_line;
 use osm_base::{Limits, OutOfMemory};
 use outside::Inputs;
@@ -32,7 +33,7 @@ pub struct LotReader {
     lot: usize,
     buffer: Vec<u8>,
     kept: Vec<u8>,
-    done: Part,
+    passed: Passed,
 }
 
 /// One read of the file, whose bytes are kept behind those before. `false`: the file is at its end.
@@ -77,17 +78,17 @@ impl LotReader {
     fn new(alloc: Global, workers: u32, lot: usize) -> Result<Self, OutOfMemory>
         requires workers { 0 < workers }
         requires lot { 0 < lot }
-        ensures work { IfOk result (λ reader. (limits : LimitNumbers) → IsAtWork limits reader) }
+        ensures work { IfOk result (λ reader. IsAtWork reader) }
         ensures lot { IfOk result (λ reader. reader.lot ≡ lot) }
         ensures few { IfOk result (λ reader. reader.kept.items ≡ []) }
-        ensures start { IfOk result (λ reader. (limits : LimitNumbers) (left : Option (List ℕ)) → HasLots limits reader.done reader.kept.items left left) }
+        ensures passed { IfOk result (λ reader. reader.passed ≡ none_passed) }
     {
         Ok(Self {
             workers,
             lot,
             buffer: vec![in alloc; 0u8; lot.min(PIECE)]?,
             kept: Vec::new(alloc),
-            done: Part::new(alloc),
+            passed: Passed::new(),
         })
     }
 
@@ -132,7 +133,7 @@ impl LotReader {
     }
 
     /// Reads a lot, whose lines wait then, and takes those of the lot that waited. `false`: the file is at its end.
-    fn take_lot<I: Inputs, R: Threads + Sync>(
+    fn take_lot<I: Inputs, R: Threads + Sync, K: Keeper>(
         &mut self,
         rt: &R,
         alloc: Global,
@@ -140,15 +141,18 @@ impl LotReader {
         file: u32,
         limits: &Limits,
         waiting: &mut Waiting,
+        keeper: &mut K,
     ) -> Result<bool, FileFault>
-        requires work { IsAtWork limits.now self.old }
+        requires work { IsAtWork self.old }
+        requires goes { GoesOn K.takes limits.now self.old.passed keeper.old }
         requires waits { Waits limits.now waiting.old self.old }
-        ensures work { OnOk result (IsAtWork limits.now self.new) }
+        ensures work { OnOk result (IsAtWork self.new) }
+        ensures goes { OnOk result (GoesOn K.takes limits.now self.new.passed keeper.new) }
         ensures waits { OnOk result (Waits limits.now waiting.new self.new) }
         ensures lot { OnOk result (self.new.lot ≡ self.old.lot) }
-        ensures lots { IfOk result (λ more. (start : Option (List ℕ)) → HasLots limits.now self.old.done (all_kept waiting.old self.old) start ((I.view inputs.old).left file)
-            → HasCome limits.now self.new.done (all_kept waiting.new self.new) more start ((I.view inputs.new).left file)) }
-        ensures left { OnErr result ((start : Option (List ℕ)) → HasLots limits.now self.old.done (all_kept waiting.old self.old) start ((I.view inputs.old).left file)
+        ensures lots { IfOk result (λ more. (first : K) (start : Option (List ℕ)) → HasLots K.after limits.now first self.old.passed keeper.old (all_kept waiting.old self.old) start ((I.view inputs.old).left file)
+            → HasCome K.after limits.now first self.new.passed keeper.new (all_kept waiting.new self.new) more start ((I.view inputs.new).left file)) }
+        ensures left { OnErr result ((first : K) (start : Option (List ℕ)) → HasLots K.after limits.now first self.old.passed keeper.old (all_kept waiting.old self.old) start ((I.view inputs.old).left file)
             → ReadsNoFurtherThan (most_kept self.old) limits.now start ((I.view inputs.new).left file)) }
         ensures stopped { IfErr result (Stops (λ _. ⊥) (Rose (I.view inputs.old).faults (I.view inputs.new).faults)) }
         ensures read { ReadsNoOther file (λ asked. I.reads inputs.old asked inputs.new) (I.view inputs.old) (I.view inputs.new) }
@@ -162,8 +166,9 @@ impl LotReader {
             self.workers,
             self.lot,
             waiting,
-            &mut self.done,
-        );
+            &mut self.passed,
+            keeper,
+        )?;
         drop_front(alloc, &mut waiting.bytes, used)?;
         // A share may not stand where it would: one reader goes on from there.
         if !waiting.bytes.is_empty() {
@@ -174,7 +179,7 @@ impl LotReader {
     }
 
     /// Takes lots while each line that ends is one that can be taken. `false`: the file is at its end.
-    fn take_lots<I: Inputs, R: Threads + Sync>(
+    fn take_lots<I: Inputs, R: Threads + Sync, K: Keeper>(
         &mut self,
         rt: &R,
         alloc: Global,
@@ -182,22 +187,25 @@ impl LotReader {
         file: u32,
         limits: &Limits,
         waiting: &mut Waiting,
+        keeper: &mut K,
     ) -> Result<bool, FileFault>
-        requires work { IsAtWork limits.now self.old }
+        requires work { IsAtWork self.old }
+        requires goes { GoesOn K.takes limits.now self.old.passed keeper.old }
         requires waits { Waits limits.now waiting.old self.old }
-        ensures work { OnOk result (IsAtWork limits.now self.new) }
+        ensures work { OnOk result (IsAtWork self.new) }
+        ensures goes { OnOk result (GoesOn K.takes limits.now self.new.passed keeper.new) }
         ensures waits { OnOk result (Waits limits.now waiting.new self.new) }
         ensures lot { OnOk result (self.new.lot ≡ self.old.lot) }
-        ensures lots { IfOk result (λ more. (start : Option (List ℕ)) → HasLots limits.now self.old.done (all_kept waiting.old self.old) start ((I.view inputs.old).left file)
-            → HasCome limits.now self.new.done (all_kept waiting.new self.new) more start ((I.view inputs.new).left file)) }
-        ensures left { OnErr result ((start : Option (List ℕ)) → HasLots limits.now self.old.done (all_kept waiting.old self.old) start ((I.view inputs.old).left file)
+        ensures lots { IfOk result (λ more. (first : K) (start : Option (List ℕ)) → HasLots K.after limits.now first self.old.passed keeper.old (all_kept waiting.old self.old) start ((I.view inputs.old).left file)
+            → HasCome K.after limits.now first self.new.passed keeper.new (all_kept waiting.new self.new) more start ((I.view inputs.new).left file)) }
+        ensures left { OnErr result ((first : K) (start : Option (List ℕ)) → HasLots K.after limits.now first self.old.passed keeper.old (all_kept waiting.old self.old) start ((I.view inputs.old).left file)
             → ReadsNoFurtherThan (most_kept self.old) limits.now start ((I.view inputs.new).left file)) }
         ensures stopped { IfErr result (Stops (λ _. ⊥) (Rose (I.view inputs.old).faults (I.view inputs.new).faults)) }
         ensures read { ReadsNoOther file (λ asked. I.reads inputs.old asked inputs.new) (I.view inputs.old) (I.view inputs.new) }
     {
         // Each lot has a line at least, or it is the last one.
         for _ in 0..limits.lines() {
-            if !self.take_lot(rt, alloc, inputs, file, limits, waiting)? {
+            if !self.take_lot(rt, alloc, inputs, file, limits, waiting, keeper)? {
                 return Ok(false);
             }
             if self.kept.len() >= self.lot || first_line(&self.kept).is_some() {
@@ -208,20 +216,23 @@ impl LotReader {
     }
 
     /// Puts the lot that waits behind the lines before it. What is left of it stands before the bytes that are kept.
-    fn settle(
+    fn settle<K: Keeper>(
         &mut self,
         alloc: Global,
         limits: &Limits,
         mut waiting: Waiting,
+        keeper: &mut K,
     ) -> Result<(), OutOfMemory>
-        requires work { IsAtWork limits.now self.old }
+        requires work { IsAtWork self.old }
+        requires goes { GoesOn K.takes limits.now self.old.passed keeper.old }
         requires waits { Waits limits.now waiting self.old }
-        ensures work { OnOk result (IsAtWork limits.now self.new) }
+        ensures work { OnOk result (IsAtWork self.new) }
+        ensures goes { OnOk result (GoesOn K.takes limits.now self.new.passed keeper.new) }
         ensures lot { OnOk result (self.new.lot ≡ self.old.lot) }
-        ensures lots { OnOk result ((more : Bool) (start left : Option (List ℕ)) → HasCome limits.now self.old.done (all_kept waiting self.old) more start left
-            → HasCome limits.now self.new.done self.new.kept.items more start left) }
+        ensures lots { OnOk result ((first : K) (more : Bool) (start left : Option (List ℕ)) → HasCome K.after limits.now first self.old.passed keeper.old (all_kept waiting self.old) more start left
+            → HasCome K.after limits.now first self.new.passed keeper.new self.new.kept.items more start left) }
     {
-        let used = waiting.put_behind(alloc, limits, &mut self.done);
+        let used = waiting.give(alloc, limits, &mut self.passed, keeper)?;
         drop_front(alloc, &mut waiting.bytes, used)?;
         waiting.bytes.append(&mut self.kept)?;
         mem::swap(&mut self.kept, &mut waiting.bytes);
@@ -230,47 +241,55 @@ impl LotReader {
 
     /// Takes lots while each line that ends is one that can be taken, and puts the last one behind those before it. `false`: the file is
     /// at its end.
-    fn read_lots<I: Inputs, R: Threads + Sync>(
+    fn read_lots<I: Inputs, R: Threads + Sync, K: Keeper>(
         &mut self,
         rt: &R,
         alloc: Global,
         inputs: &mut I,
         file: u32,
         limits: &Limits,
+        keeper: &mut K,
     ) -> Result<bool, FileFault>
-        requires work { IsAtWork limits.now self.old }
+        requires work { IsAtWork self.old }
+        requires goes { GoesOn K.takes limits.now self.old.passed keeper.old }
         requires few { length self.old.kept.items ≤ most_of_lot self.old }
-        ensures work { OnOk result (IsAtWork limits.now self.new) }
+        ensures work { OnOk result (IsAtWork self.new) }
+        ensures goes { OnOk result (GoesOn K.takes limits.now self.new.passed keeper.new) }
         ensures lot { OnOk result (self.new.lot ≡ self.old.lot) }
-        ensures lots { IfOk result (λ more. (start : Option (List ℕ)) → HasLots limits.now self.old.done self.old.kept.items start ((I.view inputs.old).left file)
-            → HasCome limits.now self.new.done self.new.kept.items more start ((I.view inputs.new).left file)) }
-        ensures left { OnErr result ((start : Option (List ℕ)) → HasLots limits.now self.old.done self.old.kept.items start ((I.view inputs.old).left file)
+        ensures lots { IfOk result (λ more. (first : K) (start : Option (List ℕ)) → HasLots K.after limits.now first self.old.passed keeper.old self.old.kept.items start ((I.view inputs.old).left file)
+            → HasCome K.after limits.now first self.new.passed keeper.new self.new.kept.items more start ((I.view inputs.new).left file)) }
+        ensures left { OnErr result ((first : K) (start : Option (List ℕ)) → HasLots K.after limits.now first self.old.passed keeper.old self.old.kept.items start ((I.view inputs.old).left file)
             → ReadsNoFurtherThan (most_kept self.old) limits.now start ((I.view inputs.new).left file)) }
         ensures stopped { IfErr result (Stops (λ _. ⊥) (Rose (I.view inputs.old).faults (I.view inputs.new).faults)) }
         ensures read { ReadsNoOther file (λ asked. I.reads inputs.old asked inputs.new) (I.view inputs.old) (I.view inputs.new) }
     {
         let mut waiting = Waiting::new(alloc);
-        let more = self.take_lots(rt, alloc, inputs, file, limits, &mut waiting)?;
-        self.settle(alloc, limits, waiting)?;
+        let more = self.take_lots(rt, alloc, inputs, file, limits, &mut waiting, keeper)?;
+        self.settle(alloc, limits, waiting, keeper)?;
         Ok(more)
     }
 
     /// Reads on by one reader, from the bytes that are kept to the end of the file.
-    fn finish<I: Inputs>(
+    fn finish<I: Inputs, K: Keeper>(
         self,
         alloc: Global,
         inputs: &mut I,
         file: u32,
         limits: &Limits,
         more: bool,
-    ) -> Result<Change, FileFault>
-        requires work { IsAtWork limits.now self }
-        ensures ok { IfOk result (λ change. (start : Option (List ℕ)) → HasCome limits.now self.done self.kept.items more start ((I.view inputs.old).left file)
-            → HasEntries limits.now change start ((I.view inputs.new).left file)) }
-        ensures left { OnErr result ((start : Option (List ℕ)) → HasLots limits.now self.done self.kept.items start ((I.view inputs.old).left file)
+        keeper: &mut K,
+    ) -> Result<(), FileFault>
+        requires work { IsAtWork self }
+        requires goes { GoesOn K.takes limits.now self.passed keeper.old }
+        ensures ok { OnOk result ((first : K) (start : Option (List ℕ))
+            → HasCome K.after limits.now first self.passed keeper.old self.kept.items more start ((I.view inputs.old).left file)
+            → ReadsAll K.after limits.now first keeper.new start ((I.view inputs.new).left file)) }
+        ensures left { OnErr result ((first : K) (start : Option (List ℕ))
+            → HasLots K.after limits.now first self.passed keeper.old self.kept.items start ((I.view inputs.old).left file)
             → ReadsNoFurtherThan (most_kept self) limits.now start ((I.view inputs.new).left file)) }
-        ensures stopped { IfErr result (Stops (λ fault. (start : Option (List ℕ))
-            → HasCome limits.now self.done self.kept.items more start ((I.view inputs.old).left file) → IsFaultOf limits.now start fault)
+        ensures stopped { IfErr result (Stops (λ fault. (first : K) (start : Option (List ℕ))
+            → HasCome K.after limits.now first self.passed keeper.old self.kept.items more start ((I.view inputs.old).left file)
+            → IsFaultOf limits.now start fault)
             (Rose (I.view inputs.old).faults (I.view inputs.new).faults)) }
         ensures read { ReadsNoOther file (λ asked. I.reads inputs.old asked inputs.new) (I.view inputs.old) (I.view inputs.new) }
     {
@@ -279,14 +298,13 @@ impl LotReader {
             lot: _,
             mut buffer,
             kept,
-            done,
+            passed,
         } = self;
-        let Part { passed, mut change } = done;
         let mut progress = Progress::behind(alloc, limits, passed);
-        progress.take(alloc, limits, &mut change, &kept)?;
+        progress.take(alloc, limits, keeper, &kept)?;
         if !more {
-            progress.finish(alloc, limits, &mut change)?;
-            return Ok(change);
+            progress.finish(alloc, limits, keeper)?;
+            return Ok(());
         }
         while read_on(
             alloc,
@@ -295,15 +313,72 @@ impl LotReader {
             limits,
             &mut buffer,
             &mut progress,
-            &mut change,
+            keeper,
         )? {}
-        progress.finish(alloc, limits, &mut change)?;
-        Ok(change)
+        progress.finish(alloc, limits, keeper)?;
+        Ok(())
     }
 }
 
-/// The entries of a file, read by lots of so many bytes. While the lines of one are read, those of the one before it are put behind
-/// the others.
+/// Gives a keeper the entries of a file, one after another, which is read by lots of so many bytes. While the lines of one are read, the
+/// entries of the one before it are given.
+pub fn scan_by_lots<I: Inputs, R: Threads + Sync, K: Keeper>(
+    rt: &R,
+    alloc: Global,
+    inputs: &mut I,
+    file: u32,
+    limits: &Limits,
+    workers: u32,
+    lot: usize,
+    keeper: &mut K,
+) -> Result<(), FileFault>
+    requires workers { 0 < workers }
+    requires lot { 0 < lot }
+    requires takes { TakesNext K.takes None keeper.old }
+    ensures ok { OnOk result (ReadsAll K.after limits.now keeper.old keeper.new
+        ((I.view inputs.old).left file) ((I.view inputs.new).left file)) }
+    ensures stopped { IfErr result (Stops (IsFaultOf limits.now ((I.view inputs.old).left file))
+        (Rose (I.view inputs.old).faults (I.view inputs.new).faults)) }
+    ensures left { OnErr result (ReadsNoFurtherThan (2 * (lot + PIECE)) limits.now
+        ((I.view inputs.old).left file) ((I.view inputs.new).left file)) }
+    ensures read { ReadsNoOther file (λ asked. I.reads inputs.old asked inputs.new) (I.view inputs.old) (I.view inputs.new) }
+{
+    let mut reader = LotReader::new(alloc, workers, lot)?;
+    let more = reader.read_lots(rt, alloc, inputs, file, limits, keeper)?;
+    reader.finish(alloc, inputs, file, limits, more, keeper)?;
+    Ok(())
+}
+
+/// Gives a keeper the entries of a file, one after another, which is read by so many workers. A file that is refused may be read two lots
+/// further than `scan_file` reads it.
+pub fn scan_parallel<I: Inputs, R: Threads + Sync, K: Keeper>(
+    rt: &R,
+    alloc: Global,
+    inputs: &mut I,
+    file: u32,
+    limits: &Limits,
+    workers: u32,
+    keeper: &mut K,
+) -> Result<(), FileFault>
+    requires workers { 0 < workers }
+    requires takes { TakesNext K.takes None keeper.old }
+    ensures ok { OnOk result (ReadsAll K.after limits.now keeper.old keeper.new
+        ((I.view inputs.old).left file) ((I.view inputs.new).left file)) }
+    ensures stopped { IfErr result (Stops (IsFaultOf limits.now ((I.view inputs.old).left file))
+        (Rose (I.view inputs.old).faults (I.view inputs.new).faults)) }
+    ensures left { OnErr result (ReadsNoFurtherThan (2 * (LOT + PIECE)) limits.now
+        ((I.view inputs.old).left file) ((I.view inputs.new).left file)) }
+    ensures read { ReadsNoOther file (λ asked. I.reads inputs.old asked inputs.new) (I.view inputs.old) (I.view inputs.new) }
+{
+    // One reader passes lines on without keeping a lot, and costs less than one worker.
+    if workers == 1 {
+        scan_file(alloc, inputs, file, limits, keeper)?;
+        return Ok(());
+    }
+    scan_by_lots(rt, alloc, inputs, file, limits, workers, LOT, keeper)
+}
+
+/// The entries of a file, read by lots of so many bytes.
 pub fn read_by_lots<I: Inputs, R: Threads + Sync>(
     rt: &R,
     alloc: Global,
@@ -323,9 +398,8 @@ pub fn read_by_lots<I: Inputs, R: Threads + Sync>(
         ((I.view inputs.old).left file) ((I.view inputs.new).left file)) }
     ensures read { ReadsNoOther file (λ asked. I.reads inputs.old asked inputs.new) (I.view inputs.old) (I.view inputs.new) }
 {
-    let mut reader = LotReader::new(alloc, workers, lot)?;
-    let more = reader.read_lots(rt, alloc, inputs, file, limits)?;
-    let change = reader.finish(alloc, inputs, file, limits, more)?;
+    let mut change = Change::new(alloc);
+    scan_by_lots(rt, alloc, inputs, file, limits, workers, lot, &mut change)?;
     Ok(change)
 }
 
@@ -347,10 +421,7 @@ pub fn read_parallel<I: Inputs, R: Threads + Sync>(
         ((I.view inputs.old).left file) ((I.view inputs.new).left file)) }
     ensures read { ReadsNoOther file (λ asked. I.reads inputs.old asked inputs.new) (I.view inputs.old) (I.view inputs.new) }
 {
-    // One reader passes lines on without keeping a lot, and costs less than one worker.
-    if workers == 1 {
-        let change = read_file(alloc, inputs, file, limits)?;
-        return Ok(change);
-    }
-    read_by_lots(rt, alloc, inputs, file, limits, workers, LOT)
+    let mut change = Change::new(alloc);
+    scan_parallel(rt, alloc, inputs, file, limits, workers, &mut change)?;
+    Ok(change)
 }

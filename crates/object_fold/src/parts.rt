@@ -1,17 +1,18 @@
 //! Whole lines of a file that are read apart from those before them.
-ghost use Rattle.std.specs.Prelude.{◌≡◌, ◌<◌, ◌≤◌, ◌+◌, ◌↔◌, ◌∷◌, ◌++◌, [], ℕ, List, None, IfSome, IsTrue, length, take, drop};
+ghost use Rattle.std.specs.Prelude.{◌≡◌, ◌<◌, ◌≤◌, ◌+◌, ◌↔◌, ◌∷◌, ◌++◌, [], ℕ, List, None, IfOk, IfSome, IsTrue, OnOk, false, fold, length, take, true, drop};
 ghost use Rattle.std.specs.Bool.{OnTrue, OnFalse};
 ghost use Rattle.std.specs.List.{cons_option};
 ghost use Rattle.object_fold.specs.Change.{FollowsAll, last_key};
-ghost use Rattle.object_fold.specs.Parts.{AreShares, IsPart, StaysWithin, TakesLines, none_passed};
+ghost use Rattle.object_fold.specs.Parts.{AreShares, GoesOn, IsPart, TakesLines, none_passed};
 ghost use Rattle.object_fold.specs.Passed.{line_fault, spelled};
 ghost use Rattle.object_fold.specs.Progress.{passed_line};
+ghost use Rattle.object_fold.specs.Reading.{TakesNext};
 
-use crate::Change;
 use crate::passed::Passed;
 use crate::progress::add_line;
+use crate::{Change, Keeper};
 use opl_lines::first_line;
-use osm_base::{Entry, Key, Limits};
+use osm_base::{Entry, Key, Limits, OutOfMemory};
 use std::alloc::Global;
 
 /// What lines were read as: what stands before a line behind them, and their entries.
@@ -54,48 +55,80 @@ impl Part {
             Err(_) => false,
         }
     }
+}
 
-    /// Puts lines that were read apart behind these, where their keys and their numbers allow it and there is memory: then they have
-    /// the entries that the file has there. `false`: nothing has changed.
-    fn append(&mut self, limits: &Limits, more: Part) -> bool
-        requires keeps { StaysWithin limits.now self.old }
-        requires last { more.passed.last ≡ last_key None more.change }
-        ensures lines { OnTrue result ((bytes : List ℕ) → IsPart limits.now bytes more → TakesLines limits.now self.old bytes self.new []) }
-        ensures left { OnFalse result (self.new ≡ self.old) }
-        ensures keeps { StaysWithin limits.now self.new }
-    {
-        if !fits_behind(limits, &self.passed, &more) {
-            return false;
-        }
-        // No limit is above that of the program, so both counts fit.
-        let _numbers = limits.numbers();
-        let Part { passed, change } = more;
-        let Ok(()) = self.change.append(change) else {
-            return false;
-        };
-        self.passed.lines += passed.lines;
-        self.passed.entries += passed.entries;
-        self.passed.last = passed.last.or(self.passed.last);
-        true
+/// Gives a keeper entries that come after those that it was given, one after another.
+fn give_all<K: Keeper>(
+    passed: &mut Passed,
+    keeper: &mut K,
+    change: Change,
+) -> Result<(), OutOfMemory>
+    requires takes { TakesNext K.takes passed.old.last keeper.old }
+    requires follows { FollowsAll passed.old.last change }
+    ensures passed { OnOk result (passed.new ≡ record passed.old { last = last_key passed.old.last change }) }
+    ensures kept { OnOk result (keeper.new ≡ fold K.after keeper.old change) }
+    ensures takes { OnOk result (TakesNext K.takes passed.new.last keeper.new) }
+{
+    for entry in change.into_entries() {
+        let key = entry.key;
+        keeper.keep(entry)?;
+        passed.last = Some(key);
     }
+    Ok(())
+}
 
-    /// Puts shares of these bytes behind these lines, up to the first that may not stand there, and answers how many bytes were taken.
-    pub fn append_all(&mut self, limits: &Limits, bytes: &[u8], shares: Vec<Share>) -> usize
-        requires keeps { StaysWithin limits.now self.old }
-        requires shares { AreShares limits.now bytes.now shares.items }
-        ensures within { result ≤ length bytes.now }
-        ensures lines { TakesLines limits.now self.old (take result bytes.now) self.new [] }
-        ensures keeps { StaysWithin limits.now self.new }
-    {
-        let mut used = 0;
-        for Share { len, part } in shares {
-            if !self.append(limits, part) {
-                break;
-            }
-            used += len;
-        }
-        used
+/// Gives a keeper the entries of lines that were read apart, where their keys and their numbers allow that they stand behind those that
+/// were passed. `false`: nothing has changed.
+fn append<K: Keeper>(
+    limits: &Limits,
+    passed: &mut Passed,
+    keeper: &mut K,
+    more: Part,
+) -> Result<bool, OutOfMemory>
+    requires goes { GoesOn K.takes limits.now passed.old keeper.old }
+    ensures lines { IfOk result (λ taken. taken ≡ true → (bytes : List ℕ) → IsPart limits.now bytes more
+        → TakesLines K.after limits.now passed.old keeper.old bytes passed.new keeper.new []) }
+    ensures left { IfOk result (λ taken. taken ≡ false → (passed.new ≡ passed.old) × (keeper.new ≡ keeper.old)) }
+    ensures goes { OnOk result (GoesOn K.takes limits.now passed.new keeper.new) }
+{
+    if !fits_behind(limits, passed, &more) {
+        return Ok(false);
     }
+    // No limit is above that of the program, so both counts fit.
+    let _numbers = limits.numbers();
+    let Part {
+        passed: own,
+        change,
+    } = more;
+    give_all(passed, keeper, change)?;
+    passed.lines += own.lines;
+    passed.entries += own.entries;
+    Ok(true)
+}
+
+/// Gives a keeper the entries of shares of these bytes, up to the first that may not stand behind the lines that were passed, and answers
+/// how many bytes were taken.
+pub fn append_all<K: Keeper>(
+    limits: &Limits,
+    passed: &mut Passed,
+    keeper: &mut K,
+    bytes: &[u8],
+    shares: Vec<Share>,
+) -> Result<usize, OutOfMemory>
+    requires goes { GoesOn K.takes limits.now passed.old keeper.old }
+    requires shares { AreShares limits.now bytes.now shares.items }
+    ensures within { IfOk result (λ used. used ≤ length bytes.now) }
+    ensures lines { IfOk result (λ used. TakesLines K.after limits.now passed.old keeper.old (take used bytes.now) passed.new keeper.new []) }
+    ensures goes { OnOk result (GoesOn K.takes limits.now passed.new keeper.new) }
+{
+    let mut used = 0;
+    for Share { len, part } in shares {
+        if !append(limits, passed, keeper, part)? {
+            break;
+        }
+        used += len;
+    }
+    Ok(used)
 }
 
 impl Share {

@@ -1,11 +1,13 @@
 //! A lot of a file whose lines were read, and wait to be put behind those before.
-ghost use Rattle.std.specs.Prelude.{◌≡◌, ◌<◌, ◌≤◌, ◌++◌, List, ℕ, [], length, take, drop};
+ghost use Rattle.std.specs.Prelude.{◌≡◌, ◌<◌, ◌≤◌, ◌++◌, List, ℕ, [], IfOk, OnOk, length, take, drop};
 ghost use Rattle.osm_base.specs.declared.bounds.limits.LimitNumbers.{LimitNumbers};
-ghost use Rattle.object_fold.specs.Parts.{AreShares, IsShareOf, StaysWithin, TakesLines, bytes_in};
+ghost use Rattle.object_fold.specs.Parts.{AreShares, GoesOn, IsShareOf, TakesLines, bytes_in};
 
-use crate::parts::{Part, Share, read_share};
+use crate::Keeper;
+use crate::parts::{Share, append_all, read_share};
+use crate::passed::Passed;
 use crate::share_out::{piece_end, share_out};
-use osm_base::Limits;
+use osm_base::{Limits, OutOfMemory};
 use std::alloc::Global;
 use std::mem;
 use std::thread::{Threads, join_mut};
@@ -29,19 +31,26 @@ impl Waiting {
         }
     }
 
-    /// Puts the shares behind these lines, up to the first that may not stand there, and answers how many bytes were taken. No share
-    /// waits any longer.
-    pub fn put_behind(&mut self, alloc: Global, limits: &Limits, done: &mut Part) -> usize
-        requires keeps { StaysWithin limits.now done.old }
+    /// Gives a keeper the entries of the shares, up to the first that may not stand behind the lines that were passed, and answers how
+    /// many bytes were taken. No share waits any longer.
+    pub fn give<K: Keeper>(
+        &mut self,
+        alloc: Global,
+        limits: &Limits,
+        passed: &mut Passed,
+        keeper: &mut K,
+    ) -> Result<usize, OutOfMemory>
+        requires goes { GoesOn K.takes limits.now passed.old keeper.old }
         requires shares { AreShares limits.now self.old.bytes.items self.old.shares.items }
         ensures left { self.new ≡ record self.old { shares = self.new.shares } }
         ensures none { self.new.shares.items ≡ [] }
-        ensures within { result ≤ length self.old.bytes.items }
-        ensures lines { TakesLines limits.now done.old (take result self.old.bytes.items) done.new [] }
-        ensures keeps { StaysWithin limits.now done.new }
+        ensures within { IfOk result (λ used. used ≤ length self.old.bytes.items) }
+        ensures lines { IfOk result (λ used.
+            TakesLines K.after limits.now passed.old keeper.old (take used self.old.bytes.items) passed.new keeper.new []) }
+        ensures goes { OnOk result (GoesOn K.takes limits.now passed.new keeper.new) }
     {
         let shares = mem::replace(&mut self.shares, Vec::new(alloc));
-        done.append_all(limits, &self.bytes, shares)
+        append_all(limits, passed, keeper, &self.bytes, shares)
     }
 }
 
@@ -78,7 +87,7 @@ fn behind_first(alloc: Global, bytes: &[u8], first: Share, mut more: Vec<Share>)
     shares
 }
 
-/// How many bytes of a lot are read by the worker that puts the lot before it behind the lines.
+/// How many bytes of a lot are read by the worker that gives the entries of the lot before it.
 fn own_len(lot: usize, workers: u32) -> usize
     requires workers { 0 < workers }
 {
@@ -87,9 +96,9 @@ fn own_len(lot: usize, workers: u32) -> usize
     lot.saturating_sub((lot / 9).saturating_mul(others)) / workers as usize
 }
 
-/// Reads a lot by so many workers, of whom one first puts the lot that waits behind the lines before it. How many bytes of the one that
+/// Reads a lot by so many workers, of whom one first gives a keeper the entries of the lot that waits. How many bytes of the one that
 /// waited were taken, and the shares of the other.
-pub fn read_beside<R: Threads + Sync>(
+pub fn read_beside<R: Threads + Sync, K: Keeper>(
     rt: &R,
     alloc: Global,
     limits: &Limits,
@@ -97,45 +106,48 @@ pub fn read_beside<R: Threads + Sync>(
     workers: u32,
     lot: usize,
     waiting: &mut Waiting,
-    done: &mut Part,
-) -> (usize, Vec<Share>)
+    passed: &mut Passed,
+    keeper: &mut K,
+) -> Result<(usize, Vec<Share>), OutOfMemory>
     requires workers { 0 < workers }
-    requires keeps { StaysWithin limits.now done.old }
+    requires goes { GoesOn K.takes limits.now passed.old keeper.old }
     requires waits { AreShares limits.now waiting.old.bytes.items waiting.old.shares.items }
     ensures left { waiting.new ≡ record waiting.old { shares = waiting.new.shares } }
     ensures none { waiting.new.shares.items ≡ [] }
-    ensures within { result.0 ≤ length waiting.old.bytes.items }
-    ensures lines { TakesLines limits.now done.old (take result.0 waiting.old.bytes.items) done.new [] }
-    ensures keeps { StaysWithin limits.now done.new }
-    ensures shares { AreShares limits.now bytes.now result.1.items }
+    ensures within { IfOk result (λ read. read.0 ≤ length waiting.old.bytes.items) }
+    ensures lines { IfOk result (λ read.
+        TakesLines K.after limits.now passed.old keeper.old (take read.0 waiting.old.bytes.items) passed.new keeper.new []) }
+    ensures goes { OnOk result (GoesOn K.takes limits.now passed.new keeper.new) }
+    ensures shares { IfOk result (λ read. AreShares limits.now bytes.now read.1.items) }
 {
     // A file of one lot needs no thread for what waits.
     if waiting.shares.is_empty() {
         let least = lot / workers as usize;
-        return (0, share_out(rt, alloc, limits, bytes, workers, least));
+        return Ok((0, share_out(rt, alloc, limits, bytes, workers, least)));
     }
     let own = own_len(lot, workers);
     let (front, rest) = bytes.split_at(piece_end(bytes, own));
     let others = (workers - 1).max(1);
     let least = lot.saturating_sub(own) / others as usize;
-    let ((used, first), more) = join_mut(
+    let (more, (given, first)) = join_mut(
         rt,
-        &mut || -> (usize, Share)
-            requires { StaysWithin limits.now done.now × AreShares limits.now waiting.now.bytes.items waiting.now.shares.items }
-            ensures { (waiting.exit.now ≡ record waiting.entry.now { shares = waiting.exit.now.shares })
-                × (waiting.exit.now.shares.items ≡ [])
-                × (result.0 ≤ length waiting.entry.now.bytes.items)
-                × TakesLines limits.entry.now done.entry.now (take result.0 waiting.entry.now.bytes.items) done.exit.now []
-                × StaysWithin limits.entry.now done.exit.now
-                × IsShareOf limits.entry.now front.entry.now result.1 }
-        {
-            let used = waiting.put_behind(alloc, limits, done);
-            (used, read_share(alloc, limits, front))
-        },
         &mut || -> Vec<Share>
             requires { 0 < others }
             ensures { AreShares limits.entry.now rest.entry.now result.items }
         { share_out(rt, alloc, limits, rest, others, least) },
+        &mut || -> (Result<usize, OutOfMemory>, Share)
+            requires { GoesOn K.takes limits.now passed.now keeper.now × AreShares limits.now waiting.now.bytes.items waiting.now.shares.items }
+            ensures { (waiting.exit.now ≡ record waiting.entry.now { shares = waiting.exit.now.shares })
+                × (waiting.exit.now.shares.items ≡ [])
+                × IfOk result.0 (λ used. (used ≤ length waiting.entry.now.bytes.items)
+                × TakesLines K.after limits.entry.now passed.entry.now keeper.entry.now (take used waiting.entry.now.bytes.items) passed.exit.now keeper.exit.now []
+                × GoesOn K.takes limits.entry.now passed.exit.now keeper.exit.now)
+                × IsShareOf limits.entry.now front.entry.now result.1 }
+        {
+            let given = waiting.give(alloc, limits, passed, keeper);
+            (given, read_share(alloc, limits, front))
+        },
     );
-    (used, behind_first(alloc, front, first, more))
+    let used = given?;
+    Ok((used, behind_first(alloc, front, first, more)))
 }

@@ -1,10 +1,14 @@
-use Rattle.std.proofs.Common.{arith}
-use Rattle.object_fold.proofs.LotLaws.{no_further}
-use Rattle.object_fold.proofs.Pieces.{on_err}
+use Rattle.object_fold.proofs.Accepted.{HasEntries-IsAccepted}
+use Rattle.object_fold.proofs.WholeFile.{ReadsAll-HasEntries}
 use Rattle.object_fold.proofs.lots.read_parallel.Goals as goal
 
-pub returns-in_err-change-clause-left : goal.returns-in_err-change-clause-left
-returns-in_err-change-clause-left g c =
-    on_err c.from_residual.result _
-    (no_further c.args.limits.now _ ((g.I.Inputs.view c.args.inputs.now).left c.args.file)
-    ((g.I.Inputs.view c.read_file.new.inputs).left c.args.file) (omega arith) c.in_err-change.ensures.left)
+pub returns-clause-ok : goal.returns-clause-ok
+returns-clause-ok g c =
+    ReadsAll-HasEntries c.args.limits.now c.new-change.result c.scan_parallel.new.keeper _ _ c.new-change.ensures.empty
+    c.in_ok-scan_parallel.ensures.ok
+
+pub returns-clause-accepted : goal.returns-clause-accepted
+returns-clause-accepted g c =
+    HasEntries-IsAccepted c.args.limits.now c.scan_parallel.new.keeper _ _
+    (ReadsAll-HasEntries c.args.limits.now c.new-change.result c.scan_parallel.new.keeper _ _ c.new-change.ensures.empty
+    c.in_ok-scan_parallel.ensures.ok)

@@ -1,7 +1,7 @@
-use Rattle.std.proofs.Common.{◌≡◌, ◌++◌, List, ℕ, [], Option, length, ap, subst, arith}
+use Rattle.std.proofs.Common.{◌≡◌, ◌++◌, List, ℕ, Option, length, ap, subst, arith}
 use Rattle.std.proofs.lemmas.Grind.{common_steps}
 use Rattle.object_fold.specs.declared.scan.TheConstants.{PIECE}
-use Rattle.object_fold.specs.Keeps.{kept_all, pushed}
+use Rattle.object_fold.specs.Keeps.{kept_all}
 use Rattle.object_fold.specs.Lots.{HasLots, most_kept}
 use Rattle.object_fold.specs.Progress.{entries_left}
 use Rattle.object_fold.proofs.LotLaws.{ends_well, goes_on, lots_stop, no_further, read_to_end}
@@ -12,42 +12,42 @@ use Rattle.object_fold.proofs.lots.LotReader.finish.Goals as goal
 
 pub returns-in_err-take-clause-left : goal.returns-in_err-take-clause-left
 returns-in_err-take-clause-left g c =
-    on_err c.from_residual.result _ (λ start has.
-    lots_stop c.args.limits.now c.args.self.done c.args.self.kept.items (most_kept c.args.self) start ((g.I.Inputs.view c.args.inputs.now).left c.args.file) has
+    on_err c.from_residual.result _ (λ first start has.
+    lots_stop g.K.Keeper.after c.args.limits.now first c.args.self.passed c.args.keeper.now c.args.self.kept.items (most_kept c.args.self) start ((g.I.Inputs.view c.args.inputs.now).left c.args.file) has
     c.requires.work.few)
 
 -- the end of the file
 
 pub returns-in_err-finish-clause-left : goal.returns-in_err-finish-clause-left
 returns-in_err-finish-clause-left g c =
-    on_err c.from_residual-in_err-finish.result _ (λ start has.
-    lots_stop c.args.limits.now c.args.self.done c.args.self.kept.items (most_kept c.args.self) start ((g.I.Inputs.view c.args.inputs.now).left c.args.file) has
+    on_err c.from_residual-in_err-finish.result _ (λ first start has.
+    lots_stop g.K.Keeper.after c.args.limits.now first c.args.self.passed c.args.keeper.now c.args.self.kept.items (most_kept c.args.self) start ((g.I.Inputs.view c.args.inputs.now).left c.args.file) has
     c.requires.work.few)
 
 pub returns-then-not-more-clause-ok : goal.returns-then-not-more-clause-ok
-returns-then-not-more-clause-ok g c = λ start come.
-    let begun = λ (start : Option (List ℕ)) (has : HasLots c.args.limits.now c.args.self.done c.args.self.kept.items start
+returns-then-not-more-clause-ok g c = λ first start come.
+    let begun = λ (first : g.row.K.Denot) (start : Option (List ℕ)) (has : HasLots g.K.Keeper.after c.args.limits.now first c.args.self.passed c.args.keeper.now c.args.self.kept.items start
     ((g.I.Inputs.view c.args.inputs.now).left c.args.file)).
-    goes_on c.args.limits.now c.args.self c.behind-progress.result c.behind-progress.ensures.left c.take.new.self c.take.new.keeper
+    goes_on g.K.Keeper.after c.args.limits.now first c.args.self c.args.keeper.now c.behind-progress.result c.behind-progress.ensures.left c.take.new.self c.take.new.keeper
     (subst (λ (own : List ℕ). (later : List ℕ)
-    → kept_all pushed c.args.self.done.change (entries_left c.args.limits.now c.behind-progress.result (own ++ later))
-    ≡ kept_all pushed c.take.new.keeper (entries_left c.args.limits.now c.take.new.self later)) c.deref.ensures.value
+    → kept_all g.K.Keeper.after c.args.keeper.now (entries_left c.args.limits.now c.behind-progress.result (own ++ later))
+    ≡ kept_all g.K.Keeper.after c.take.new.keeper (entries_left c.args.limits.now c.take.new.self later)) c.deref.ensures.value
     c.in_ok-take.ensures.entries)
     start ((g.I.Inputs.view c.args.inputs.now).left c.args.file) has in
-    ends_well c.args.limits.now c.take.new.self c.take.new.keeper c.finish.new.keeper c.in_ok-finish.ensures.kept start
-    ((g.I.Inputs.view c.args.inputs.now).left c.args.file) (come.ended c.if-not-more.true) (begun start come.lots)
+    ends_well g.K.Keeper.after c.args.limits.now first c.take.new.self c.take.new.keeper c.finish.new.keeper c.in_ok-finish.ensures.kept start
+    ((g.I.Inputs.view c.args.inputs.now).left c.args.file) (come.ended c.if-not-more.true) (begun first start come.lots)
 
 -- one more read
 
 pub loop-progress-init : goal.loop-progress-init
 loop-progress-init g c =
     let laws = g.met.I.Inputs g.world.𝓛 g.world.𝓜 g.world.𝓡 ((λ s x. x), (λ x. x), (λ x. x), λ x. x) in
-    let begun = λ (start : Option (List ℕ)) (has : HasLots c.args.limits.now c.args.self.done c.args.self.kept.items start
+    let begun = λ (first : g.row.K.Denot) (start : Option (List ℕ)) (has : HasLots g.K.Keeper.after c.args.limits.now first c.args.self.passed c.args.keeper.now c.args.self.kept.items start
     ((g.I.Inputs.view c.args.inputs.now).left c.args.file)).
-    goes_on c.args.limits.now c.args.self c.behind-progress.result c.behind-progress.ensures.left c.take.new.self c.take.new.keeper
+    goes_on g.K.Keeper.after c.args.limits.now first c.args.self c.args.keeper.now c.behind-progress.result c.behind-progress.ensures.left c.take.new.self c.take.new.keeper
     (subst (λ (own : List ℕ). (later : List ℕ)
-    → kept_all pushed c.args.self.done.change (entries_left c.args.limits.now c.behind-progress.result (own ++ later))
-    ≡ kept_all pushed c.take.new.keeper (entries_left c.args.limits.now c.take.new.self later)) c.deref.ensures.value
+    → kept_all g.K.Keeper.after c.args.keeper.now (entries_left c.args.limits.now c.behind-progress.result (own ++ later))
+    ≡ kept_all g.K.Keeper.after c.take.new.keeper (entries_left c.args.limits.now c.take.new.self later)) c.deref.ensures.value
     c.in_ok-take.ensures.entries)
     start ((g.I.Inputs.view c.args.inputs.now).left c.args.file) has in
     record {
@@ -62,10 +62,10 @@ pub returns-in_err-read_on-clause-left : goal.returns-in_err-read_on-clause-left
 returns-in_err-read_on-clause-left g c =
     let left = (g.I.Inputs.view c.loop-progress.inputs).left c.args.file in
     let rest = (g.I.Inputs.view c.read_on.new.inputs).left c.args.file in
-    on_err c.from_residual-in_err-read_on.result _ (λ start has.
+    on_err c.from_residual-in_err-read_on.result _ (λ first start has.
     no_further c.args.limits.now (most_kept c.args.self) start rest (omega arith)
-    (stops_in_time pushed c.args.limits.now [] c.loop-progress.progress c.loop-progress.change start left rest
-    c.loop-progress.invariant.ready.ready (c.loop-progress.invariant.read start has)
+    (stops_in_time g.K.Keeper.after c.args.limits.now first c.loop-progress.progress c.loop-progress.keeper start left rest
+    c.loop-progress.invariant.ready.ready (c.loop-progress.invariant.read first start has)
     (reads_within (length c.deref_mut.result.now) PIECE left rest
     (omega (arith, ap length c.deref_mut.ensures.value, c.loop-progress.invariant.room)) c.in_err-read_on.ensures.left)))
 
@@ -84,8 +84,8 @@ loop-progress-preserved g c =
       ready = c.in_ok-read_on.ensures.ready;
       some = grind (arith, common_steps);
       room = grind (arith, common_steps);
-      read = λ start has. read_more pushed c.args.limits.now [] c.loop-progress.progress c.loop-progress.change
-          c.read_on.new.progress c.read_on.new.keeper start left rest (c.loop-progress.invariant.read start has)
+      read = λ first start has. read_more g.K.Keeper.after c.args.limits.now first c.loop-progress.progress c.loop-progress.keeper
+          c.read_on.new.progress c.read_on.new.keeper start left rest (c.loop-progress.invariant.read first start has)
           c.in_ok-read_on.ensures.piece;
       alone = read_again g.I.Inputs.reads g.I.Inputs.view c.args.file laws.reads_then c.args.inputs.now c.loop-progress.inputs
           c.read_on.new.inputs c.loop-progress.invariant.alone c.in_ok-read_on.ensures.read;
@@ -97,12 +97,12 @@ pub returns-in_err-finish-2-clause-left : goal.returns-in_err-finish-2-clause-le
 returns-in_err-finish-2-clause-left g c =
     let left = (g.I.Inputs.view c.loop-progress.inputs).left c.args.file in
     let rest = (g.I.Inputs.view c.read_on.new.inputs).left c.args.file in
-    on_err c.from_residual-in_err-finish-2.result _ (λ start has.
+    on_err c.from_residual-in_err-finish-2.result _ (λ first start has.
     no_further c.args.limits.now (most_kept c.args.self) start rest (omega arith)
-    (stops_in_time pushed c.args.limits.now [] c.read_on.new.progress c.read_on.new.keeper start rest rest
+    (stops_in_time g.K.Keeper.after c.args.limits.now first c.read_on.new.progress c.read_on.new.keeper start rest rest
     c.in_ok-read_on.ensures.ready.ready
-    (read_more pushed c.args.limits.now [] c.loop-progress.progress c.loop-progress.change c.read_on.new.progress c.read_on.new.keeper
-    start left rest (c.loop-progress.invariant.read start has) c.in_ok-read_on.ensures.piece) (reads_nothing PIECE rest)))
+    (read_more g.K.Keeper.after c.args.limits.now first c.loop-progress.progress c.loop-progress.keeper c.read_on.new.progress c.read_on.new.keeper
+    start left rest (c.loop-progress.invariant.read first start has) c.in_ok-read_on.ensures.piece) (reads_nothing PIECE rest)))
 
 pub returns-in_err-finish-2-clause-read : goal.returns-in_err-finish-2-clause-read
 returns-in_err-finish-2-clause-read g c =
@@ -111,15 +111,15 @@ returns-in_err-finish-2-clause-read g c =
     c.loop-progress.invariant.alone c.read_on.ensures.read
 
 pub returns-clause-ok : goal.returns-clause-ok
-returns-clause-ok g c = λ start come.
+returns-clause-ok g c = λ first start come.
     let left = (g.I.Inputs.view c.loop-progress.inputs).left c.args.file in
     let rest = (g.I.Inputs.view c.read_on.new.inputs).left c.args.file in
-    ends_well c.args.limits.now c.read_on.new.progress c.read_on.new.keeper c.finish-2.new.keeper c.in_ok-finish-2.ensures.kept start rest
-    (read_to_end c.args.limits.now c.loop-progress.progress c.read_on.new.progress c.loop-progress.change c.read_on.new.keeper
-    c.in_ok-read_on.field-0 start left rest (c.loop-progress.invariant.read start come.lots) c.in_ok-read_on.ensures.bytes
+    ends_well g.K.Keeper.after c.args.limits.now first c.read_on.new.progress c.read_on.new.keeper c.finish-2.new.keeper c.in_ok-finish-2.ensures.kept start rest
+    (read_to_end g.K.Keeper.after c.args.limits.now first c.loop-progress.progress c.read_on.new.progress c.loop-progress.keeper c.read_on.new.keeper
+    c.in_ok-read_on.field-0 start left rest (c.loop-progress.invariant.read first start come.lots) c.in_ok-read_on.ensures.bytes
     c.if-branch.false)
-    (read_more pushed c.args.limits.now [] c.loop-progress.progress c.loop-progress.change c.read_on.new.progress c.read_on.new.keeper
-    start left rest (c.loop-progress.invariant.read start come.lots) c.in_ok-read_on.ensures.piece)
+    (read_more g.K.Keeper.after c.args.limits.now first c.loop-progress.progress c.loop-progress.keeper c.read_on.new.progress c.read_on.new.keeper
+    start left rest (c.loop-progress.invariant.read first start come.lots) c.in_ok-read_on.ensures.piece)
 
 pub returns-clause-read : goal.returns-clause-read
 returns-clause-read g c =

@@ -1,8 +1,6 @@
-use Rattle.std.proofs.Common.{◌≤◌, ◌<◌, List, ℕ, [], Option, length}
+use Rattle.std.proofs.Common.{◌≤◌, ◌<◌, List, ℕ, Option, length}
 use Rattle.opl_lines.specs.Reading.{room}
 use Rattle.object_fold.specs.declared.scan.TheConstants.{PIECE}
-use Rattle.object_fold.specs.Change.{Follows, last_key}
-use Rattle.object_fold.specs.Keeps.{pushed}
 use Rattle.object_fold.specs.Lots.{HasLots}
 use Rattle.object_fold.specs.Progress.{IsReadyFor, HasRead}
 use Rattle.object_fold.specs.Reading.{ReadsNoOther}
@@ -11,11 +9,12 @@ use Rattle.object_fold.proofs.lots.LotReader.finish.Given as goal
 -- what is left of the file makes of the entries now what the whole file makes of none
 abbrev pub invariant-loop-progress : goal.invariant-loop-progress
 invariant-loop-progress g l = record {
-  ready : IsReadyFor (λ change next. Follows (last_key Option.None change) next) l.limits l.progress l.change;
+  ready : IsReadyFor g.K.Keeper.takes l.limits l.progress l.keeper;
   some : 0 < length l.buffer.items;
   room : length l.buffer.items ≤ PIECE;
-  read : (start : Option (List ℕ)) → HasLots l.limits l.fn.self.done l.fn.self.kept.items start ((g.I.Inputs.view l.fn.inputs).left l.file)
-      → HasRead pushed l.limits [] l.progress l.change start ((g.I.Inputs.view l.inputs).left l.file);
+  read : (first : _) (start : Option (List ℕ)) → HasLots g.K.Keeper.after l.limits first l.fn.self.passed l.fn.keeper l.fn.self.kept.items
+      start ((g.I.Inputs.view l.fn.inputs).left l.file)
+      → HasRead g.K.Keeper.after l.limits first l.progress l.keeper start ((g.I.Inputs.view l.inputs).left l.file);
   alone : ReadsNoOther l.file (λ asked. g.I.Inputs.reads l.fn.inputs asked l.inputs) (g.I.Inputs.view l.fn.inputs)
       (g.I.Inputs.view l.inputs);
 }

@@ -8,8 +8,8 @@ pub returns-in_err-more-clause-left : goal.returns-in_err-more-clause-left
 returns-in_err-more-clause-left g c =
     let reader = c.args.self.now in
     let left = (g.I.Inputs.view c.args.inputs.now).left c.args.file in
-    on_err c.from_residual.result _ (λ start has. c.in_err-more.ensures.left start
-    (subst (λ (own : List ℕ). HasLots c.args.limits.now reader.done (own ++ reader.kept.items) start left)
+    on_err c.from_residual.result _ (λ first start has. c.in_err-more.ensures.left first start
+    (subst (λ (own : List ℕ). HasLots g.K.Keeper.after c.args.limits.now first reader.passed c.args.keeper.now (own ++ reader.kept.items) start left)
     (sym c.new-waiting.ensures.bytes) has))
 
 pub returns-in_err-settle-clause-left : goal.returns-in_err-settle-clause-left
@@ -20,10 +20,10 @@ returns-in_err-settle-clause-left g c =
     let rest = (g.I.Inputs.view c.take_lots.new.inputs).left c.args.file in
     let now = c.take_lots.new.self in
     let waiting = c.take_lots.new.waiting in
-    on_err c.from_residual-in_err-settle.result _ (λ start has.
-    lots_stop limits now.done (all_kept waiting now) (most_kept reader) start rest
-    (c.in_ok-more.ensures.lots start
-    (subst (λ (own : List ℕ). HasLots limits reader.done (own ++ reader.kept.items) start left) (sym c.new-waiting.ensures.bytes)
+    on_err c.from_residual-in_err-settle.result _ (λ first start has.
+    lots_stop g.K.Keeper.after c.args.limits.now first now.passed c.take_lots.new.keeper (all_kept waiting now) (most_kept reader) start rest
+    (c.in_ok-more.ensures.lots first start
+    (subst (λ (own : List ℕ). HasLots g.K.Keeper.after c.args.limits.now first reader.passed c.args.keeper.now (own ++ reader.kept.items) start left) (sym c.new-waiting.ensures.bytes)
     has)).lots
     (omega (
       arith,
@@ -34,11 +34,11 @@ returns-in_err-settle-clause-left g c =
     )))
 
 pub returns-clause-lots : goal.returns-clause-lots
-returns-clause-lots g c = λ start has.
+returns-clause-lots g c = λ first start has.
     let limits = c.args.limits.now in
     let reader = c.args.self.now in
     let left = (g.I.Inputs.view c.args.inputs.now).left c.args.file in
     let rest = (g.I.Inputs.view c.take_lots.new.inputs).left c.args.file in
-    c.in_ok-settle.ensures.lots c.in_ok-more.more start rest
-    (c.in_ok-more.ensures.lots start
-    (subst (λ (own : List ℕ). HasLots limits reader.done (own ++ reader.kept.items) start left) (sym c.new-waiting.ensures.bytes) has))
+    c.in_ok-settle.ensures.lots first c.in_ok-more.more start rest
+    (c.in_ok-more.ensures.lots first start
+    (subst (λ (own : List ℕ). HasLots g.K.Keeper.after c.args.limits.now first reader.passed c.args.keeper.now (own ++ reader.kept.items) start left) (sym c.new-waiting.ensures.bytes) has))

@@ -25,9 +25,10 @@ loop-preserved g c =
     let laws = g.met.I.Inputs g.world.𝓛 g.world.𝓜 g.world.𝓡 ((λ s x. x), (λ x. x), (λ x. x), λ x. x) in
     record {
       work = c.in_ok-take_lot.ensures.work;
+      goes = c.in_ok-take_lot.ensures.goes;
       waits = c.in_ok-take_lot.ensures.waits;
       lot = c.in_ok-take_lot.ensures.lot ∙ c.loop.invariant.lot;
-      lots = λ start has. (c.in_ok-take_lot.ensures.lots start (c.loop.invariant.lots start has)).lots;
+      lots = λ first start has. (c.in_ok-take_lot.ensures.lots first start (c.loop.invariant.lots first start has)).lots;
       alone = read_then g.I.Inputs.reads g.I.Inputs.view c.args.file laws.reads_then c.args.inputs.now c.loop.inputs c.take_lot.new.inputs
           c.loop.invariant.alone c.take_lot.ensures.read;
     }

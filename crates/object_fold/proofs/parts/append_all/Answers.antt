@@ -2,10 +2,10 @@ use Rattle.std.proofs.Common.{drop, subst, arith}
 use Rattle.std.proofs.lemmas.List.{length-drop}
 use Rattle.object_fold.specs.Parts.{AreShares}
 use Rattle.object_fold.proofs.PartLaws.{takes_share, shares_behind}
-use Rattle.object_fold.proofs.parts.Part.append_all.Goals as goal
+use Rattle.object_fold.proofs.parts.append_all.Goals as goal
 
 pub loop-len-preserved : goal.loop-len-preserved
-loop-len-preserved c =
+loop-len-preserved g c =
     let limits = c.args.limits.now in
     let bytes = c.args.bytes.now in
     let used = c.loop-len.used in
@@ -13,8 +13,8 @@ loop-len-preserved c =
     let shares = subst (λ own. AreShares limits (drop used bytes) own) c.in-Some.ensures.steps.0 c.loop-len.invariant.shares in
     record {
       within = omega (arith, shares.0, length-drop used bytes, c.loop-len.invariant.within);
-      stays = c.if-not-append.ensures.keeps;
+      goes = c.in_ok-append.ensures.goes;
       shares = shares_behind limits bytes used share.len c.next.new.self.rest.items shares.2;
-      lines = takes_share limits c.args.self.now c.loop-len.self c.append.new.self bytes used share.len c.loop-len.invariant.lines
-          (c.if-not-append.ensures.lines _ shares.1);
+      lines = takes_share g.K.Keeper.after limits c.args.passed.now c.args.keeper.now c.loop-len.passed c.loop-len.keeper c.append.new.passed
+          c.append.new.keeper bytes used share.len c.loop-len.invariant.lines (c.in_ok-append.ensures.lines c.if-not-branch.false _ shares.1);
     }
