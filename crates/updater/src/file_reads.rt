@@ -16,6 +16,9 @@ use std::thread::Threads;
 use style_read::{Style, read_style};
 use tile_cover::{Bounds, read_bounds};
 
+/// How many workers read the files of a command that is told no number.
+pub const READERS: u32 = 4;
+
 /// A style, and the bytes that write it.
 #[derive(Drop)]
 pub struct StyleFile {

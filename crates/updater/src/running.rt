@@ -86,8 +86,8 @@ fn run_command<R: Threads + Wait + Sync, I: Inputs, D: Disk, S: Sink, G: Gate>(
         (world (I.view inputs.new) (D.view disk.new) (S.view out.new)) (result_err result) }
 {
     match command {
-        Command::Points { key, files } => points(alloc, key, files, inputs, disk, out),
-        Command::Lines { key, files } => lines(alloc, key, files, inputs, disk, out),
+        Command::Points { key, files } => points(rt, alloc, key, files, inputs, disk, out),
+        Command::Lines { key, files } => lines(rt, alloc, key, files, inputs, disk, out),
         Command::Init { store: _ } => init(inputs, disk, out),
         Command::Import {
             store: _,

@@ -14,14 +14,16 @@ ghost use Rattle.tag_rows.specs.WayRows.{after_way, no_ways};
 ghost use Rattle.run_promise.specs.World.{world};
 ghost use Rattle.updater.specs.commands.Lines as lines;
 
+use crate::file_reads::READERS;
 use crate::forms::{Words, keyed};
 use crate::telling::tell;
 use crate::words::Command;
-use object_fold::{FileFault, scan_file};
+use object_fold::{FileFault, scan_parallel};
 use osm_base::Limits;
 use outside::{Disk, Inputs, Sink};
 use run_promise::{Fault, Files};
 use std::alloc::Global;
+use std::thread::Threads;
 use tag_rows::{WayImport, WayRows};
 
 /// The form of its words.
@@ -33,7 +35,8 @@ pub fn form(words: Words<'_>) -> Option<Command<'_>>
 }
 
 /// Reads the files one after another, and writes the rows of the ways.
-pub fn lines<I: Inputs, D: Disk, S: Sink>(
+pub fn lines<R: Threads + Sync, I: Inputs, D: Disk, S: Sink>(
+    rt: &R,
     alloc: Global,
     key: &str,
     files: Files,
@@ -48,14 +51,14 @@ pub fn lines<I: Inputs, D: Disk, S: Sink>(
     ensures asked { AsksOnly (λ asked. I.reads inputs.old asked inputs.new) (Names (lines_of key.now files)) }
 {
     let limits = Limits::standard();
-    let mut rows = match import(alloc, key, inputs, files.first, &limits) {
+    let mut rows = match import(rt, alloc, key, inputs, files.first, &limits) {
         Ok(rows) => rows,
         Err(fault) => return Err(Fault::in_file(files.first, fault)),
     };
     let mut file = files.first + 1;
     let end = files.first + files.count;
     while file < end {
-        if let Err(fault) = change(alloc, inputs, file, &limits, &mut rows) {
+        if let Err(fault) = change(rt, alloc, inputs, file, &limits, &mut rows) {
             return Err(Fault::in_file(file, fault));
         }
         file += 1;
@@ -65,7 +68,8 @@ pub fn lines<I: Inputs, D: Disk, S: Sink>(
 }
 
 /// Reads the first file, whose entries become objects while they are read.
-fn import<'k, I: Inputs>(
+fn import<'k, R: Threads + Sync, I: Inputs>(
+    rt: &R,
     alloc: Global,
     key: &'k str,
     inputs: &mut I,
@@ -79,12 +83,13 @@ fn import<'k, I: Inputs>(
     ensures read { ReadsNoOther file (λ asked. I.reads inputs.old asked inputs.new) (I.view inputs.old) (I.view inputs.new) }
 {
     let mut import = WayImport::new(alloc, key);
-    scan_file(alloc, inputs, file, limits, &mut import)?;
+    scan_parallel(rt, alloc, inputs, file, limits, READERS, &mut import)?;
     Ok(import.into_rows()?)
 }
 
 /// Reads a file of changes, which is applied whole at its end.
-fn change<I: Inputs>(
+fn change<R: Threads + Sync, I: Inputs>(
+    rt: &R,
     alloc: Global,
     inputs: &mut I,
     file: u32,
@@ -98,7 +103,7 @@ fn change<I: Inputs>(
     ensures read { ReadsNoOther file (λ asked. I.reads inputs.old asked inputs.new) (I.view inputs.old) (I.view inputs.new) }
 {
     let mut change = rows.begin();
-    scan_file(alloc, inputs, file, limits, &mut change)?;
+    scan_parallel(rt, alloc, inputs, file, limits, READERS, &mut change)?;
     rows.apply(change.into_change())?;
     Ok(())
 }

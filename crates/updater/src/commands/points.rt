@@ -8,14 +8,16 @@ ghost use Rattle.run_promise.specs.Runs.{AsksOnly, GoesBy};
 ghost use Rattle.run_promise.specs.World.{world};
 ghost use Rattle.updater.specs.commands.Points as points;
 
+use crate::file_reads::READERS;
 use crate::forms::{Words, keyed};
 use crate::telling::tell;
 use crate::words::Command;
-use object_fold::scan_file;
+use object_fold::scan_parallel;
 use osm_base::Limits;
 use outside::{Disk, Inputs, Sink};
 use run_promise::{Fault, Files};
 use std::alloc::Global;
+use std::thread::Threads;
 use tag_rows::PointRows;
 
 /// The form of its words.
@@ -27,7 +29,8 @@ pub fn form(words: Words<'_>) -> Option<Command<'_>>
 }
 
 /// Reads the files one after another, and writes the rows of the points.
-pub fn points<I: Inputs, D: Disk, S: Sink>(
+pub fn points<R: Threads + Sync, I: Inputs, D: Disk, S: Sink>(
+    rt: &R,
     alloc: Global,
     key: &str,
     files: Files,
@@ -46,7 +49,8 @@ pub fn points<I: Inputs, D: Disk, S: Sink>(
     let mut file = files.first;
     let end = files.first + files.count;
     while file < end {
-        if let Err(fault) = scan_file(alloc, inputs, file, &limits, &mut rows) {
+        let read = scan_parallel(rt, alloc, inputs, file, &limits, READERS, &mut rows);
+        if let Err(fault) = read {
             return Err(Fault::in_file(file, fault));
         }
         file += 1;
