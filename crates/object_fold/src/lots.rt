@@ -24,7 +24,7 @@ use std::mem;
 use std::thread::Threads;
 
 /// How many bytes of a file are read before their lines are shared out, while the lines of as many wait to be put behind the others.
-pub const LOT: usize = 2_097_152;
+pub const LOT: usize = 2_064_384;
 
 /// How far a file was read: the lines that were taken, and the bytes of the lot that is read behind them.
 #[derive(Drop)]
