@@ -45,14 +45,14 @@ returns-in-Err g c =
           (g.I.Inputs.view c.args.inputs.now) (g.D.Disk.view c.args.disk.now) (g.S.Sink.view c.args.out.now) file
           (files.first + files.count - file) (files.first + files.count - (file + 1)) (omega (arith, c.loop-file-test.true))
           c.loop-file.rows (g.I.Inputs.view c.loop-file.inputs)
-          (g.I.Inputs.view c.scan_parallel.new.inputs) c.loop-file.invariant.turn c.scan_parallel.ensures.read.alone.others
-          c.scan_parallel.ensures.read.alone.later c.in-Err.fault
+          (g.I.Inputs.view c.scan_parallel-read.new.inputs) c.loop-file.invariant.turn c.scan_parallel-read.ensures.read.alone.others
+          c.scan_parallel-read.ensures.read.alone.later c.in-Err.fault
           (subst (λ (limits : LimitNumbers). Stops (IsFaultOf limits ((g.I.Inputs.view c.loop-file.inputs).left file))
-          (Rose (g.I.Inputs.view c.loop-file.inputs).faults (g.I.Inputs.view c.scan_parallel.new.inputs).faults) c.in-Err.fault)
+          (Rose (g.I.Inputs.view c.loop-file.inputs).faults (g.I.Inputs.view c.scan_parallel-read.new.inputs).faults) c.in-Err.fault)
           c.standard-limits.ensures.numbers c.in-Err.ensures.stopped);
       asked = asked_more g.I.Inputs.reads laws.reads_then
-          (Names (points_of key files)) c.args.inputs.now c.loop-file.inputs c.scan_parallel.new.inputs file c.loop-file.invariant.asked
-          c.scan_parallel.ensures.read.asked (c.loop-file.invariant.least, omega (arith, c.loop-file-test.true));
+          (Names (points_of key files)) c.args.inputs.now c.loop-file.inputs c.scan_parallel-read.new.inputs file c.loop-file.invariant.asked
+          c.scan_parallel-read.ensures.read.asked (c.loop-file.invariant.least, omega (arith, c.loop-file-test.true));
     })
 
 pub loop-file-preserved : goal.loop-file-preserved
@@ -64,18 +64,18 @@ loop-file-preserved g c =
     record {
       least = omega (arith, c.loop-file.invariant.least);
       asked = asked_more g.I.Inputs.reads laws.reads_then
-          (Names (points_of key files)) c.args.inputs.now c.loop-file.inputs c.scan_parallel.new.inputs file c.loop-file.invariant.asked
-          c.scan_parallel.ensures.read.asked (c.loop-file.invariant.least, omega (arith, c.loop-file-test.true));
+          (Names (points_of key files)) c.args.inputs.now c.loop-file.inputs c.scan_parallel-read.new.inputs file c.loop-file.invariant.asked
+          c.scan_parallel-read.ensures.read.asked (c.loop-file.invariant.least, omega (arith, c.loop-file-test.true));
       within = omega (arith, c.loop-file-test.true);
       turn = next_turn after_entry (no_rows (chars key)) (λ entries. writes_text (points_text_of key entries) ends)
           (course_of (points_of key files))
           (g.I.Inputs.view c.args.inputs.now) (g.D.Disk.view c.args.disk.now) (g.S.Sink.view c.args.out.now) file
           (files.first + files.count - file) (files.first + files.count - (file + 1)) (omega (arith, c.loop-file-test.true))
           c.loop-file.rows (g.I.Inputs.view c.loop-file.inputs)
-          (g.I.Inputs.view c.scan_parallel.new.inputs) c.loop-file.invariant.turn c.scan_parallel.ensures.read.alone.others
-          c.scan_parallel.ensures.read.alone.later c.scan_parallel.new.keeper
-          (subst (λ (limits : LimitNumbers). ReadsAll after_entry limits c.loop-file.rows c.scan_parallel.new.keeper
-          ((g.I.Inputs.view c.loop-file.inputs).left file) ((g.I.Inputs.view c.scan_parallel.new.inputs).left file))
+          (g.I.Inputs.view c.scan_parallel-read.new.inputs) c.loop-file.invariant.turn c.scan_parallel-read.ensures.read.alone.others
+          c.scan_parallel-read.ensures.read.alone.later c.scan_parallel-read.new.keeper
+          (subst (λ (limits : LimitNumbers). ReadsAll after_entry limits c.loop-file.rows c.scan_parallel-read.new.keeper
+          ((g.I.Inputs.view c.loop-file.inputs).left file) ((g.I.Inputs.view c.scan_parallel-read.new.inputs).left file))
           c.standard-limits.ensures.numbers c.in_default.ensures.ok);
     }
 
