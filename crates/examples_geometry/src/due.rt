@@ -1,9 +1,9 @@
 //! Sets of tiles in bytes, and joined.
 use crate::covers::text_of_runs;
+use doubles::{Fails, MemSink};
 use due_tiles::{DueFault, TilesFault, decode, encode, union, write_tiles};
 use example_table::{bytes_of, number_of, row_of};
 use osm_base::OutOfMemory;
-use outside::{Fails, MemSink};
 use std::alloc::{AllocError, Global};
 use tile_cover::TileRuns;
 

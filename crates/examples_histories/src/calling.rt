@@ -2,8 +2,8 @@
 
 use crate::opening::push_opened;
 use crate::stores::opened;
+use doubles::MemDisk;
 use osm_base::Limits;
-use outside::MemDisk;
 use std::alloc::{AllocError, Global};
 use update_flow::{FlowFault, Updater};
 

@@ -3,8 +3,8 @@
 use crate::end::End;
 use crate::setting::{STYLE, Setting};
 use crate::stores::{change, formatted, import};
+use doubles::MemDisk;
 use osm_base::Limits;
-use outside::MemDisk;
 use std::alloc::{AllocError, Global};
 use std::thread::Threads;
 use tile_cover::Bounds;

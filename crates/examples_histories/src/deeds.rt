@@ -4,9 +4,9 @@ ghost use Rattle.bucket_store.specs.Transaction.{has_refused};
 
 use bucket_store::Buckets;
 use chain_store::Root;
+use doubles::{Fails, MemDisk};
 use example_table::{bytes_of, number_of, row_of};
 use osm_base::{Bytes, Limits};
-use outside::{Fails, MemDisk};
 use page_journal::{StoreFault, format};
 use std::alloc::{AllocError, Global};
 use update_flow::STYLE_TEXT;

@@ -5,8 +5,8 @@ use crate::end::{End, Part};
 use crate::stores::{files_of, formatted};
 use crate::version::version_of;
 use delta_feed::FeedReader;
+use doubles::{Fails, MemDisk, MemInputs};
 use osm_base::Limits;
-use outside::{Fails, MemDisk, MemInputs};
 use std::alloc::Global;
 use update_flow::{FlowFault, Follower, open_follower};
 

@@ -5,9 +5,9 @@ use crate::crashed::{PICKS, crash};
 use crate::opening::push_opened;
 use crate::stores::opened;
 use bucket_store::Buckets;
+use doubles::{CrashPick, MemDisk};
 use middle_nodes::{get, get_old};
 use osm_base::Limits;
-use outside::{CrashPick, MemDisk};
 use std::alloc::{AllocError, Global};
 use update_flow::{Opened, open};
 

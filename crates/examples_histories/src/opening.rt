@@ -4,8 +4,8 @@ use crate::calling::push_called;
 use crate::deeds::is_done;
 use crate::migrated::push_crashed;
 use crate::stores::opened;
+use doubles::{Fails, MemDisk};
 use osm_base::{Bytes, Limits};
-use outside::{Fails, MemDisk};
 use std::alloc::{AllocError, Global};
 use update_flow::Updater;
 

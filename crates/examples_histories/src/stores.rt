@@ -2,10 +2,11 @@
 
 use crate::end::End;
 use crate::setting::Setting;
+use doubles::{Fails, MemDisk, MemInputs};
 use geom_workers::{Hands, Workers};
 use object_fold::{Change, FileFault, read_file};
 use osm_base::{Bytes, Delta, FileList, Limits, MAX_ENTRIES, OutOfMemory, Tables};
-use outside::{Fails, MemDisk, MemInputs, OpenGate};
+use outside::OpenGate;
 use page_journal::format;
 use row_text::table_text;
 use std::alloc::{AllocError, Global};

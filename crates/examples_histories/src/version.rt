@@ -1,9 +1,9 @@
 //! What a store tells of itself, as one text.
 
 use crate::stores::push_tables;
+use doubles::MemDisk;
 use due_tiles::tiles_text;
 use osm_base::{Limits, OutOfMemory, Tables};
-use outside::MemDisk;
 use std::alloc::Global;
 use style_read::Style;
 use tile_cover::TileRuns;

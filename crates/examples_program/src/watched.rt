@@ -1,7 +1,8 @@
 //! Files in memory, of which a gate is told which are asked for.
 
 use crate::gate::InTurn;
-use outside::{Failed, Inputs, MemInputs};
+use doubles::MemInputs;
+use outside::{Failed, Inputs};
 use std::marker::Model;
 
 /// Files that do what those in memory do, and tell this gate the number of each that is asked for.

@@ -1,11 +1,11 @@
 //! Examples of files that are read whole: their bytes, and their entries.
 use crate::key::{put_key, put_number};
 use crate::lots::is_read_by_lots;
+use doubles::{Fails, MemInputs};
 use example_table::{bytes_of, number_of, row_of};
 use object_fold::{Change, FileFault, WholeFault, read_all, read_file};
 use opl_object::Why;
 use osm_base::{Bytes, Entry, FileList, Ids, LimitKind, LimitNumbers, Limits, OutOfMemory};
-use outside::{Fails, MemInputs};
 use std::alloc::{AllocError, Global};
 use std::thread::Threads;
 

@@ -2,10 +2,10 @@
 ghost use Rattle.opl_object.specs.Written.{IsWritable};
 
 use crate::both::outcome_of;
+use doubles::{Fails, MemSink};
 use example_table::bytes_of;
 use opl_object::{LineRefused, Why, read_line, write_entry};
 use osm_base::{Entry, Ids};
-use outside::{Fails, MemSink};
 use std::alloc::{AllocError, Global};
 
 /// More calls of a sink than a line of the tables takes.

@@ -2,8 +2,8 @@
 
 use crate::deeds::put_bytes;
 use crate::stores::{opened_once, put_outcome};
+use doubles::{CrashPick, MemDisk};
 use example_table::{number_of, row_of};
-use outside::{CrashPick, MemDisk};
 use std::alloc::{AllocError, Global};
 
 /// What unsynced ranges may hold.

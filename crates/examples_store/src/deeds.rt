@@ -3,8 +3,9 @@ ghost use Rattle.std.specs.Prelude.{◌≤◌, IfSome};
 
 use crate::crashes::{go_on, put_all_pages, put_left, put_pages};
 use crate::stores::{commit_pages, formatted, opened, put_outcome, read_page};
+use doubles::MemDisk;
 use example_table::{bytes_of, number_of, row_of};
-use outside::{Disk, Failed, MemDisk};
+use outside::{Disk, Failed};
 use std::alloc::{AllocError, Global};
 
 /// The most bytes of a disk that a deed names.

@@ -9,9 +9,9 @@ mod deeds;
 mod stores;
 
 use deeds::put_answer;
+use doubles::{Fails, MemDisk};
 use example_table::{is_told, number_of, refuse_row, row_of, sides_of};
 use osm_base::{Bytes, Ids};
-use outside::{Fails, MemDisk};
 use std::alloc::{AllocError, Global};
 use std::fs::{self, Files};
 use std::io;

@@ -1,8 +1,8 @@
 //! Deeds on a store. Each adds its answer, and answers whether its row is in its form.
 
+use doubles::MemDisk;
 use example_table::{number_of, row_of};
 use osm_base::{LimitNumbers, Limits};
-use outside::MemDisk;
 use page_journal::{Journal, PageSet, StoreFault, format, open};
 use std::alloc::{AllocError, Global};
 

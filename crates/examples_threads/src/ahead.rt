@@ -6,10 +6,10 @@ use crate::refusal::Refusal;
 use change_pipe::{
     ChangeFiles, MAX_AHEAD, Parcel, ParcelBody, Pipe, Putter, Taker, make_pipe, read_ahead,
 };
+use doubles::{Fails, MemInputs};
 use example_table::{bytes_of, number_of, row_of};
 use object_fold::FileFault;
 use osm_base::{Bytes, FileList, Ids, Limits};
-use outside::{Fails, MemInputs};
 use std::alloc::Global;
 use std::sync::Wait;
 use std::thread::Threads;

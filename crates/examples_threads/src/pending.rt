@@ -5,10 +5,10 @@ ghost use Rattle.osm_base.specs.values.Ids.{AreRisingIds};
 ghost use Rattle.osm_base.specs.values.Key.{IsId};
 
 use crate::refusal::Refusal;
+use doubles::{Fails, MemInputs};
 use example_table::{bytes_of, number_of};
 use object_fold::{Change, Objects, RisingIds, read_file};
 use osm_base::{Bytes, FileList, Ids, Limits, MAX_ID, PendingSet, TryCopy};
-use outside::{Fails, MemInputs};
 use std::alloc::Global;
 
 /// The objects after the files that words write, one after another.

@@ -5,9 +5,9 @@ use crate::calls::{called, empty, push_fault, push_gap};
 use crate::objects::push_numbers;
 use back_index::Indexed;
 use bucket_store::{Buckets, open};
+use doubles::MemDisk;
 use example_table::number_of;
 use osm_base::{Back, Limits, OutOfMemory};
-use outside::MemDisk;
 use page_journal::StoreFault;
 use std::alloc::{AllocError, Global};
 

@@ -11,9 +11,10 @@ mod transaction;
 
 use crate::buckets::deeds::push_blank;
 use crate::buckets::transaction::transaction;
+use doubles::{Fails, MemDisk};
 use example_table::{is_told, number_of, refuse_row, row_of, sides_of};
 use osm_base::{Bytes, Ids};
-use outside::{Disk, Fails, MemDisk};
+use outside::Disk;
 use page_journal::format;
 use std::alloc::{AllocError, Global};
 use std::fs::{self, Files};

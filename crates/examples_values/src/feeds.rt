@@ -1,8 +1,8 @@
 //! Files of feeds, as rows of the table tell them: a bar for each newline, and @N for N digits 0.
 use crate::rows::style;
 use delta_feed::{Block, FeedFault, FeedReader};
+use doubles::{Fails, MemInputs};
 use osm_base::{Bytes, FileList, Limits, OutOfMemory};
-use outside::{Fails, MemInputs};
 use std::alloc::{AllocError, Global};
 use style_read::Style;
 

@@ -2,10 +2,11 @@
 use crate::notation::{queries_of, style, tables_of};
 use crate::refusal::Refusal;
 use crate::texts::{push_answer, push_shut};
+use doubles::Fails;
 use example_table::{number_of, row_of};
 use map_query::Queries;
 use osm_base::Ids;
-use outside::{Fails, Gate, GatePlace, OpenGate};
+use outside::{Gate, GatePlace, OpenGate};
 use std::alloc::Global;
 use std::sync::atomic::{AtomicU64, Ordering};
 use style_read::Style;

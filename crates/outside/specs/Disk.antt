@@ -4,7 +4,7 @@
 -- counts as written. A sync that succeeds leaves what a read gives, and one that fails promises nothing new.
 use Rattle.std.specs.Prelude.{◌≡◌, ℕ, ◌+◌, ◌-◌, ◌<◌, ◌≤◌, ◌⊎◌, min, max, List, ◌++◌, length, take, drop, replicate, slice_index, Option}
 use Rattle.std.specs.Prelude.{Some}
-use Rattle.outside.specs.Calls.{one_more}
+use Rattle.outside.specs.Counts.{one_more}
 
 -- what crashes may leave: of a crash now, and of a crash at some moment from an earlier one on, inside a call or
 -- between two. The clock of moments never goes back.

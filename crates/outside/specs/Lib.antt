@@ -1,16 +1,8 @@
 pub mod Bytes
-pub mod Calls
 pub mod Causes
-pub mod CrashPick
+pub mod Counts
 pub mod Disk
-pub mod Fails
 pub mod FileDisk
 pub mod Inputs
-pub mod MemDisk
-pub mod MemInputs
-pub mod MemSink
-pub mod Recorded
-pub mod RecordedView
 pub mod Sink
 pub mod StdSink
-pub mod Tape

@@ -6,6 +6,9 @@ ghost use Rattle.outside.specs.Disk.{DiskView, Tells, Torn, ReadsFrom, Follows, 
 
 use crate::Failed;
 
+/// The most bytes that a disk holds.
+pub const MAX_LEN: usize = 1 << 62;
+
 /// Bytes that are read and written at any place, and that a crash may damage until they are synced.
 pub trait Disk {
     /// What a read gives, what a crash may leave, the count of faults, and the reads.

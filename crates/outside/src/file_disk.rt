@@ -1,11 +1,10 @@
 //! A real file as a disk.
 ghost use Rattle.std.specs.Prelude.{◌≡◌, ℕ, ◌+◌, ◌-◌, ◌^◌, ◌≤◌, None, List, length, IfOk, is_err, if◌then◌else◌};
-ghost use Rattle.outside.specs.Calls.{one_more};
+ghost use Rattle.outside.specs.Counts.{one_more};
 ghost use Rattle.outside.specs.Causes.{HasCause};
 ghost use Rattle.outside.specs.FileDisk.{silent};
 
-use crate::overwrite::MAX_LEN;
-use crate::{Disk, Failed};
+use crate::{Disk, Failed, MAX_LEN};
 use std::fs::{self, File, OpenFile, OpenOptions};
 use std::io::{self, ErrorKind, Read, Seek, SeekFrom, Write};
 use std::marker::Model;

@@ -2,7 +2,7 @@
 ghost use Rattle.std.specs.Prelude.{◌≡◌, ◌≢◌, ◌<◌, ◌≤◌, ℕ, None, Option, List, length, IfOk, is_err, if◌then◌else◌};
 ghost use Rattle.std.specs.Io.KnownBytes.{ReadConsumes};
 ghost use Rattle.std.specs.Io.{ReadsAtMost};
-ghost use Rattle.outside.specs.Calls.{one_more};
+ghost use Rattle.outside.specs.Counts.{one_more};
 ghost use Rattle.outside.specs.Causes.{HasCause};
 
 use crate::{Failed, Inputs};

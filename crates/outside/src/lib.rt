@@ -8,10 +8,9 @@
 //! says `HasCause`. Of a disk they also say what a crash may leave, now and at each moment since an
 //! earlier one: until a sync has succeeded, anything may stand in the ranges that were written.
 //!
-//! `MemInputs`, `MemSink` and `MemDisk` keep all in memory, tell every byte, and fail at the calls
-//! that `Fails` names. `MemDisk` keeps each call too, so that a crash in any of them can be tried.
 //! `FileInputs`, `StdSink` and `FileDisk` stand over real files and a real stream: no proof says what
-//! those hold, so they tell no bytes, and each counts its faults. `put_all` writes a whole text.
+//! those hold, so they tell no bytes, and each counts its faults. `put_all` writes a whole text. What
+//! stands for them in memory, and tells every byte, is the crate `doubles`.
 //!
 //! A `Gate` is what threads pass at five places of a run. `OpenGate` holds nobody.
 //!
@@ -19,39 +18,24 @@
 //! `Progress` how far a long run is: a line before who waits, of which no clause speaks.
 #![tactic(auto)]
 
-mod calls;
-mod crash_pick;
 mod disk;
 mod failed;
-mod fails;
 mod file_disk;
 mod file_inputs;
-mod files_left;
 mod gate;
 mod inputs;
-mod mem_disk;
-mod mem_inputs;
-mod mem_sink;
-mod overwrite;
 mod progress;
-mod recorded;
 mod sink;
 mod std_sink;
-mod tape;
 mod telling_files;
 mod telling_sink;
 
-pub use crash_pick::CrashPick;
-pub use disk::Disk;
+pub use disk::{Disk, MAX_LEN};
 pub use failed::Failed;
-pub use fails::Fails;
 pub use file_disk::{Bar, FileDisk};
 pub use file_inputs::FileInputs;
 pub use gate::{Gate, GatePlace, OpenGate, TellingGate};
 pub use inputs::Inputs;
-pub use mem_disk::MemDisk;
-pub use mem_inputs::MemInputs;
-pub use mem_sink::MemSink;
 pub use progress::Progress;
 pub use sink::{Sink, put_all};
 pub use std_sink::StdSink;

@@ -1,7 +1,7 @@
 //! A writer of std, as a `Sink`, that takes the line away which tells how far a run is.
 ghost use Rattle.std.specs.Prelude.{◌≡◌, ◌<◌, ◌≤◌, None, length, take, IfOk, is_err, if◌then◌else◌};
 ghost use Rattle.std.specs.Io.KnownBytes.{Appends, WriteAppends};
-ghost use Rattle.outside.specs.Calls.{one_more};
+ghost use Rattle.outside.specs.Counts.{one_more};
 ghost use Rattle.outside.specs.Causes.{HasCause};
 
 use crate::{Failed, Progress, Sink, StdSink};

@@ -1,8 +1,8 @@
 -- What publishers and readers are, as contracts see them.
 use Rattle.std.specs.Prelude.{◌≡◌, refl, ℕ, ◌+◌, ◌-◌, ◌^◌, min, Bool}
 use Rattle.std.specs.Coded.{Coded, code_by, coded×, coded_bool, coded_ℕ}
-use Rattle.outside.specs.Fails.{FailPlan}
-use Rattle.outside.specs.contracts.fails.Fails as fails
+use Rattle.doubles.specs.Fails.{FailPlan}
+use Rattle.doubles.specs.contracts.fails.Fails as fails
 use Rattle.style_read.specs.contracts.style.Style as styles
 use Rattle.style_read.specs.Style.{StyleOf}
 use Rattle.table_versions.specs.Fronts.{FrontOf, front_code}

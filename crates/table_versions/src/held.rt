@@ -2,7 +2,7 @@
 ghost use Rattle.std.specs.Prelude.{◌≡◌, ◌≤◌, ◌↔◌, [], true, IfErr, IfNone, IfOk, IfSome, IsErrOf, IsNone, IsTrue, OnOk, OnSome};
 ghost use Rattle.std.specs.Bool.{OnFalse, OnTrue};
 ghost use Rattle.outside.specs.Causes.{Rose};
-ghost use Rattle.outside.specs.Fails.{Names};
+ghost use Rattle.doubles.specs.Fails.{Names};
 ghost use Rattle.table_versions.specs.Fronts.{Begins};
 ghost use Rattle.table_versions.specs.Answers.{IsAnswer, IsCount, IsRefused};
 ghost use Rattle.table_versions.specs.Views.{next_call};
@@ -11,9 +11,9 @@ ghost use Rattle.table_versions.specs.declared.answers.LookRefused.TheVariants.{
 use crate::answers::{Answer, Counted, LookRefused};
 use crate::front::{Front, open_history};
 use crate::looking::Reads;
+use doubles::Fails;
 use map_query::{Query, answer};
 use osm_base::{OutOfMemory, Tables};
-use outside::Fails;
 use row_text::count_rows;
 use std::alloc::Global;
 use std::marker::Model;
@@ -34,7 +34,7 @@ pub struct HeldReader {
 impl Model for HeldReader {
     ghost use Rattle.std.specs.Prelude.{◌≡◌, ◌≤◌, ◌↔◌, [], true, IfErr, IfNone, IfOk, IfSome, IsErrOf, IsNone, IsTrue, OnOk, OnSome};
     ghost use Rattle.outside.specs.Causes.{Rose};
-    ghost use Rattle.outside.specs.Fails.{Names};
+    ghost use Rattle.doubles.specs.Fails.{Names};
     ghost use Rattle.table_versions.specs.Fronts.{Begins};
     ghost use Rattle.table_versions.specs.Answers.{IsAnswer, IsCount, IsRefused};
     ghost use Rattle.table_versions.specs.Views.{next_call};

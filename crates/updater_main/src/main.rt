@@ -4,15 +4,16 @@
 
 ghost use Rattle.std.specs.Prelude.{◌≡◌, ◌↔◌, [], drop, map, Some, None, is_err, if◌then◌else◌};
 ghost use Rattle.std.specs.String.{string_bytes};
-ghost use Rattle.outside.specs.MemDisk.{disk_bytes};
+ghost use Rattle.doubles.specs.MemDisk.{disk_bytes};
 ghost use Rattle.run_promise.specs.Faults.{status_of};
 ghost use Rattle.updater.specs.Command.{command};
 ghost use Rattle.updater_main.specs.Asked.{asked, run_for, seen};
 
+use doubles::{Fails, MemDisk};
 use osm_base::Bytes;
 use outside::{
-    Bar, Disk, Failed, Fails, FileDisk, Gate, Inputs, MemDisk, Progress, Sink, StdSink,
-    TellingFiles, TellingGate, TellingSink, put_all,
+    Bar, Disk, Failed, FileDisk, Gate, Inputs, Progress, Sink, StdSink, TellingFiles, TellingGate,
+    TellingSink, put_all,
 };
 use page_journal::{GATE_AT, OPEN};
 use run_promise::{Fault, Outcome, fault_line};

@@ -5,9 +5,9 @@ ghost use Rattle.bucket_store.specs.Transaction.{has_refused};
 use crate::buckets::deeds::{key_of, none, string_of};
 use bucket_store::Buckets;
 use chain_store::Root;
+use doubles::MemDisk;
 use example_table::{number_of, row_of};
 use osm_base::Bytes;
-use outside::MemDisk;
 use page_journal::StoreFault;
 use std::alloc::{AllocError, Global};
 

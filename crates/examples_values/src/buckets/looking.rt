@@ -4,9 +4,9 @@ ghost use Rattle.bucket_store.specs.Transaction.{has_refused};
 
 use crate::buckets::deeds::{key_of, map_of, none, push_blank, string_of};
 use bucket_store::{Buckets, WholeMap};
+use doubles::MemDisk;
 use example_table::number_of;
 use osm_base::Bytes;
-use outside::MemDisk;
 use page_journal::StoreFault;
 use std::alloc::{AllocError, Global};
 

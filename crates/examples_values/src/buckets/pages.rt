@@ -5,8 +5,8 @@ ghost use Rattle.bucket_store.specs.Transaction.{chains_of, has_refused};
 
 use crate::buckets::deeds::{none, push_blank};
 use bucket_store::Buckets;
+use doubles::MemDisk;
 use example_table::number_of;
-use outside::MemDisk;
 use page_journal::StoreFault;
 use std::alloc::{AllocError, Global};
 

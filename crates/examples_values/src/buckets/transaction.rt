@@ -4,8 +4,8 @@ ghost use Rattle.bucket_store.specs.Transaction.{has_refused};
 
 use crate::buckets::deeds::answer_of;
 use bucket_store::{Buckets, open};
+use doubles::MemDisk;
 use osm_base::Limits;
-use outside::MemDisk;
 use std::alloc::{AllocError, Global};
 
 /// Opens the store, does these deeds in one transaction and answers for each of them, and for the commit where they

@@ -1,0 +1,9 @@
+pub mod Calls
+pub mod CrashPick
+pub mod Fails
+pub mod MemDisk
+pub mod MemInputs
+pub mod MemSink
+pub mod Recorded
+pub mod RecordedView
+pub mod Tape
