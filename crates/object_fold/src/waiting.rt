@@ -1,12 +1,14 @@
 //! A lot of a file whose lines were read, and wait to be put behind those before.
 ghost use Rattle.std.specs.Prelude.{◌≡◌, ◌<◌, ◌≤◌, ◌++◌, List, ℕ, [], IfOk, OnOk, length, take, drop};
+ghost use Rattle.std.specs.List.{AllZip};
+ghost use Rattle.std.specs.Thread.{IsSync};
 ghost use Rattle.osm_base.specs.declared.bounds.limits.LimitNumbers.{LimitNumbers};
 ghost use Rattle.object_fold.specs.Parts.{AreShares, GoesOn, IsShareOf, TakesLines, bytes_in};
 
 use crate::Keeper;
 use crate::parts::{Share, append_all, read_share};
 use crate::passed::Passed;
-use crate::share_out::{piece_end, share_out};
+use crate::share_out::{leave_out, piece_end, pieces_of};
 use osm_base::{Limits, OutOfMemory};
 use std::alloc::Global;
 use std::mem;
@@ -87,13 +89,77 @@ fn behind_first(alloc: Global, bytes: &[u8], first: Share, mut more: Vec<Share>)
     shares
 }
 
-/// How many bytes of a lot are read by the worker that gives the entries of the lot before it.
-fn own_len(lot: usize, workers: u32) -> usize
+/// How many bytes of a lot are read by the worker that gives the entries of the lot before it, if there is one.
+fn own_len(lot: usize, workers: u32, is_first: bool) -> usize
     requires workers { 0 < workers }
 {
+    if is_first {
+        return lot / workers as usize;
+    }
     // To put a lot behind takes about a ninth of what it takes to read one.
     let others = (workers - 1) as usize;
     lot.saturating_sub((lot / 9).saturating_mul(others)) / workers as usize
+}
+
+/// Reads each of these pieces of a lot by a thread of its own, while this one gives a keeper the entries of the lot that waits and then
+/// reads the front. How many bytes of the one that waited were taken, the share of the front, and those of the pieces.
+fn read_with_others<R: Threads + Sync, K: Keeper>(
+    rt: &R,
+    alloc: Global,
+    limits: &Limits,
+    front: &[u8],
+    pieces: &[&[u8]],
+    waiting: &mut Waiting,
+    passed: &mut Passed,
+    keeper: &mut K,
+) -> (
+    Result<usize, OutOfMemory>,
+    Share,
+    Result<Vec<Share>, OutOfMemory>,
+)
+    requires goes { GoesOn K.takes limits.now passed.old keeper.old }
+    requires waits { AreShares limits.now waiting.old.bytes.items waiting.old.shares.items }
+    ensures left { waiting.new ≡ record waiting.old { shares = waiting.new.shares } }
+    ensures none { waiting.new.shares.items ≡ [] }
+    ensures given { IfOk result.0 (λ used. (used ≤ length waiting.old.bytes.items)
+        × TakesLines K.after limits.now passed.old keeper.old (take used waiting.old.bytes.items) passed.new keeper.new []
+        × GoesOn K.takes limits.now passed.new keeper.new) }
+    ensures first { IsShareOf limits.now front.now result.1 }
+    ensures shares { IfOk result.2 (λ shares. AllZip (λ piece share. IsShareOf limits.now piece.now share) pieces.now shares.items) }
+{
+    let Some((last, others)) = pieces.split_last() else {
+        let given = waiting.give(alloc, limits, passed, keeper);
+        return (given, read_share(alloc, limits, front), Ok(Vec::new(alloc)));
+    };
+    // Threads that are made by new threads wait behind these on one processor, so this one makes them all.
+    let (share, (given, first, read)) = join_mut(
+        rt,
+        &mut || -> Share
+            ensures { IsShareOf limits.entry.now last.entry.now.now result }
+        { read_share(alloc, limits, *last) },
+        &mut || -> (
+            Result<usize, OutOfMemory>,
+            Share,
+            Result<Vec<Share>, OutOfMemory>,
+        )
+            requires { IsSync R.row × GoesOn K.takes limits.now passed.now keeper.now
+                × AreShares limits.now waiting.now.bytes.items waiting.now.shares.items }
+            ensures { (waiting.exit.now ≡ record waiting.entry.now { shares = waiting.exit.now.shares })
+                × (waiting.exit.now.shares.items ≡ [])
+                × IfOk result.0 (λ used. (used ≤ length waiting.entry.now.bytes.items)
+                × TakesLines K.after limits.entry.now passed.entry.now keeper.entry.now (take used waiting.entry.now.bytes.items) passed.exit.now keeper.exit.now []
+                × GoesOn K.takes limits.entry.now passed.exit.now keeper.exit.now)
+                × IsShareOf limits.entry.now front.entry.now result.1
+                × IfOk result.2 (λ shares. AllZip (λ piece share. IsShareOf limits.entry.now piece.now share) others.entry.now shares.items) }
+        { read_with_others(rt, alloc, limits, front, others, waiting, passed, keeper) },
+    );
+    let Ok(mut shares) = read else {
+        return (given, first, Err(OutOfMemory));
+    };
+    match shares.push(share) {
+        Ok(()) => (given, first, Ok(shares)),
+        Err(_) => (given, first, Err(OutOfMemory)),
+    }
 }
 
 /// Reads a lot by so many workers, of whom one first gives a keeper the entries of the lot that waits. How many bytes of the one that
@@ -120,34 +186,19 @@ pub fn read_beside<R: Threads + Sync, K: Keeper>(
     ensures goes { OnOk result (GoesOn K.takes limits.now passed.new keeper.new) }
     ensures shares { IfOk result (λ read. AreShares limits.now bytes.now read.1.items) }
 {
-    // A file of one lot needs no thread for what waits.
-    if waiting.shares.is_empty() {
-        let least = lot / workers as usize;
-        return Ok((0, share_out(rt, alloc, limits, bytes, workers, least)));
-    }
-    let own = own_len(lot, workers);
+    let own = own_len(lot, workers, waiting.shares.is_empty());
     let (front, rest) = bytes.split_at(piece_end(bytes, own));
     let others = (workers - 1).max(1);
     let least = lot.saturating_sub(own) / others as usize;
-    let (more, (given, first)) = join_mut(
-        rt,
-        &mut || -> Vec<Share>
-            requires { 0 < others }
-            ensures { AreShares limits.entry.now rest.entry.now result.items }
-        { share_out(rt, alloc, limits, rest, others, least) },
-        &mut || -> (Result<usize, OutOfMemory>, Share)
-            requires { GoesOn K.takes limits.now passed.now keeper.now × AreShares limits.now waiting.now.bytes.items waiting.now.shares.items }
-            ensures { (waiting.exit.now ≡ record waiting.entry.now { shares = waiting.exit.now.shares })
-                × (waiting.exit.now.shares.items ≡ [])
-                × IfOk result.0 (λ used. (used ≤ length waiting.entry.now.bytes.items)
-                × TakesLines K.after limits.entry.now passed.entry.now keeper.entry.now (take used waiting.entry.now.bytes.items) passed.exit.now keeper.exit.now []
-                × GoesOn K.takes limits.entry.now passed.exit.now keeper.exit.now)
-                × IsShareOf limits.entry.now front.entry.now result.1 }
-        {
-            let given = waiting.give(alloc, limits, passed, keeper);
-            (given, read_share(alloc, limits, front))
-        },
+    let Ok(pieces) = pieces_of(alloc, rest, others, least) else {
+        waiting.shares.clear();
+        return Err(OutOfMemory);
+    };
+    let (given, first, read) = read_with_others(
+        rt, alloc, limits, front, &pieces, waiting, passed, keeper,
     );
+    let mut more = read?;
+    leave_out(&pieces, &mut more);
     let used = given?;
     Ok((used, behind_first(alloc, front, first, more)))
 }
