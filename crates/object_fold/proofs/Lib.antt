@@ -1,6 +1,7 @@
 mod Accepted
 pub mod FoldLaws
 pub mod IndexOf
+mod Joined
 mod Lines
 pub mod Listers
 mod ListingSteps

@@ -331,6 +331,11 @@ last_key-some : (key : KeyOf) (before : Option KeyOf) (entries : List Entry)
 last_key-some key before [] = refl
 last_key-some key before (entry ∷ entries) = last_key-some entry.key before entries
 
+-- the last of some entries has their last key
+pub last_key-last : (before : Option KeyOf) (front : List Entry) (entry : Entry) → last_key before (front ++ entry ∷ []) ≡ Some entry.key
+last_key-last before [] entry = refl
+last_key-last before (first ∷ front) entry = last_key-last (Some first.key) front entry
+
 last_key-or : (before : Option KeyOf) (entries : List Entry) → last_key before entries ≡ option_or (last_key None entries) before
 last_key-or before [] = refl
 last_key-or before (entry ∷ entries) = last_key-some entry.key before entries

@@ -4,6 +4,7 @@
 use Rattle.std.specs.Prelude.{◌≡◌, ◌≤◌, ◌<◌, ℕ, ◌+◌, ◌*◌, List, [], ◌++◌, length, Option, Bool, false}
 use Rattle.osm_base.specs.declared.bounds.limits.LimitNumbers.{LimitNumbers}
 use Rattle.osm_base.specs.declared.values.object.Entry.{Entry}
+use Rattle.osm_base.specs.values.Key.{KeyOf}
 use Rattle.outside.specs.Bytes.{BothKnown}
 use Rattle.object_fold.specs.declared.lots.LotReader.{LotReader}
 use Rattle.object_fold.specs.declared.passed.Passed.{Passed}
@@ -11,7 +12,7 @@ use Rattle.object_fold.specs.declared.scan.TheConstants.{PIECE}
 use Rattle.object_fold.specs.declared.waiting.Waiting.{Waiting}
 use Rattle.object_fold.specs.Entries.{entries_of}
 use Rattle.object_fold.specs.Keeps.{kept_all}
-use Rattle.object_fold.specs.Parts.{AreShares, keeps_to}
+use Rattle.object_fold.specs.Parts.{AreShares, GoesOn, keeps_to}
 use Rattle.object_fold.specs.Reading.{LeavesOpen}
 
 -- of these bytes those that come later were not read: so many at most were behind bytes that left each fault open
@@ -72,6 +73,11 @@ pub record IsAtWork (reader : LotReader) : Type 0 where
   pub some : 0 < length reader.buffer.items
   pub room : length reader.buffer.items ≤ PIECE
   pub few : length reader.kept.items ≤ most_kept reader
+
+-- it is at work, and a keeper may be given the entries behind the lines that were passed
+pub record IsReading {K : Type 0} (takes : K → KeyOf → Type 0) (limits : LimitNumbers) (reader : LotReader) (keeper : K) : Type 0 where
+  pub work : IsAtWork reader
+  pub goes : GoesOn takes limits reader.passed keeper
 
 -- of a lot that waits these are the shares, and neither it nor the one behind it is longer than a lot
 pub record Waits (limits : LimitNumbers) (waiting : Waiting) (reader : LotReader) : Type 0 where

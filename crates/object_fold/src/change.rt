@@ -6,7 +6,7 @@ ghost use Rattle.object_fold.specs.Change.{IsChange, IsProper, Follows, last_key
 ghost use Rattle.object_fold.specs.Keeps.{pushed};
 
 use crate::Keeper;
-use osm_base::{Entry, OutOfMemory, TryCopy};
+use osm_base::{Entry, Key, OutOfMemory, TryCopy};
 use std::alloc::Global;
 use std::marker::Model;
 
@@ -76,5 +76,14 @@ impl Keeper for Change {
     fn keep(&mut self, entry: Entry) -> Result<(), OutOfMemory> {
         self.entries.push(entry)?;
         Ok(())
+    }
+
+    fn keep_all(
+        &mut self,
+        last: Option<Key>,
+        mut entries: Vec<Entry>,
+    ) -> Result<Vec<Entry>, OutOfMemory> {
+        self.entries.append(&mut entries)?;
+        Ok(entries)
     }
 }

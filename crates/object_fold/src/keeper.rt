@@ -1,11 +1,12 @@
 //! Who is given the entries of a file.
-ghost use Rattle.std.specs.Prelude.{◌≡◌, OnOk, IsTrue};
+ghost use Rattle.std.specs.Prelude.{◌≡◌, OnOk, IsTrue, fold};
 ghost use Rattle.osm_base.specs.values.Key.{KeyOf};
 ghost use Rattle.osm_base.specs.values.KeyOrder.{is_below};
 ghost use Rattle.osm_base.specs.declared.values.object.Entry.{Entry as EntryOf};
-ghost use Rattle.object_fold.specs.Change.{IsProper};
+ghost use Rattle.object_fold.specs.Change.{IsProper, RiseFrom, last_key};
+ghost use Rattle.object_fold.specs.Reading.{TakesNext};
 
-use osm_base::{Entry, OutOfMemory};
+use osm_base::{Entry, Key, OutOfMemory};
 
 /// Keeps what it needs of the entries of a file, which it is given one after another by rising keys.
 pub trait Keeper: Drop {
@@ -21,4 +22,16 @@ pub trait Keeper: Drop {
         requires proper { IsProper entry }
         ensures ok { OnOk result (self.new ≡ after self.old entry) }
         ensures rises { OnOk result ((next : KeyOf) → IsTrue (is_below entry.key next) → takes self.new next) };
+
+    /// Takes the entries that come after a key, and hands back what it does not keep of them: whoever gives them lets go of that when no
+    /// other thread asks for memory.
+    fn keep_all(
+        &mut self,
+        last: Option<Key>,
+        entries: Vec<Entry>,
+    ) -> Result<Vec<Entry>, OutOfMemory>
+        requires takes { TakesNext takes last self.old }
+        requires rise { RiseFrom last entries.items }
+        ensures kept { OnOk result (self.new ≡ fold after self.old entries.items) }
+        ensures takes { OnOk result (TakesNext takes (last_key last entries.items) self.new) };
 }

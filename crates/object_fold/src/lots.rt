@@ -4,8 +4,8 @@ ghost use Rattle.osm_base.specs.declared.bounds.limits.LimitNumbers.{LimitNumber
 ghost use Rattle.outside.specs.Bytes.{IfTold};
 ghost use Rattle.outside.specs.Causes.{Rose};
 ghost use Rattle.object_fold.specs.Entries.{IsAccepted};
-ghost use Rattle.object_fold.specs.Lots.{HasCome, HasLots, IsAtWork, ReadsBehind, ReadsNoFurtherThan, Waits, all_kept, most_kept, most_of_lot};
-ghost use Rattle.object_fold.specs.Parts.{GoesOn, bytes_in, none_passed};
+ghost use Rattle.object_fold.specs.Lots.{HasCome, HasLots, IsAtWork, IsReading, ReadsBehind, ReadsNoFurtherThan, Waits, all_kept, most_kept, most_of_lot};
+ghost use Rattle.object_fold.specs.Parts.{bytes_in, none_passed};
 ghost use Rattle.object_fold.specs.Reading.{HasEntries, IsFaultOf, ReadsAtMost, ReadsNoOther, ReadsAll, ReadsOnce, TakesNext};
 ghost use Rattle.object_fold.specs.Stops.{Stops};
 ghost use Rattle.object_fold.specs.Whole.{MovesBytes};
@@ -143,11 +143,9 @@ impl LotReader {
         waiting: &mut Waiting,
         keeper: &mut K,
     ) -> Result<bool, FileFault>
-        requires work { IsAtWork self.old }
-        requires goes { GoesOn K.takes limits.now self.old.passed keeper.old }
+        requires reading { IsReading K.takes limits.now self.old keeper.old }
         requires waits { Waits limits.now waiting.old self.old }
-        ensures work { OnOk result (IsAtWork self.new) }
-        ensures goes { OnOk result (GoesOn K.takes limits.now self.new.passed keeper.new) }
+        ensures reading { OnOk result (IsReading K.takes limits.now self.new keeper.new) }
         ensures waits { OnOk result (Waits limits.now waiting.new self.new) }
         ensures lot { OnOk result (self.new.lot ≡ self.old.lot) }
         ensures lots { IfOk result (λ more. (first : K) (start : Option (List ℕ)) → HasLots K.after limits.now first self.old.passed keeper.old (all_kept waiting.old self.old) start ((I.view inputs.old).left file)
@@ -189,11 +187,9 @@ impl LotReader {
         waiting: &mut Waiting,
         keeper: &mut K,
     ) -> Result<bool, FileFault>
-        requires work { IsAtWork self.old }
-        requires goes { GoesOn K.takes limits.now self.old.passed keeper.old }
+        requires reading { IsReading K.takes limits.now self.old keeper.old }
         requires waits { Waits limits.now waiting.old self.old }
-        ensures work { OnOk result (IsAtWork self.new) }
-        ensures goes { OnOk result (GoesOn K.takes limits.now self.new.passed keeper.new) }
+        ensures reading { OnOk result (IsReading K.takes limits.now self.new keeper.new) }
         ensures waits { OnOk result (Waits limits.now waiting.new self.new) }
         ensures lot { OnOk result (self.new.lot ≡ self.old.lot) }
         ensures lots { IfOk result (λ more. (first : K) (start : Option (List ℕ)) → HasLots K.after limits.now first self.old.passed keeper.old (all_kept waiting.old self.old) start ((I.view inputs.old).left file)
@@ -223,11 +219,9 @@ impl LotReader {
         mut waiting: Waiting,
         keeper: &mut K,
     ) -> Result<(), OutOfMemory>
-        requires work { IsAtWork self.old }
-        requires goes { GoesOn K.takes limits.now self.old.passed keeper.old }
+        requires reading { IsReading K.takes limits.now self.old keeper.old }
         requires waits { Waits limits.now waiting self.old }
-        ensures work { OnOk result (IsAtWork self.new) }
-        ensures goes { OnOk result (GoesOn K.takes limits.now self.new.passed keeper.new) }
+        ensures reading { OnOk result (IsReading K.takes limits.now self.new keeper.new) }
         ensures lot { OnOk result (self.new.lot ≡ self.old.lot) }
         ensures lots { OnOk result ((first : K) (more : Bool) (start left : Option (List ℕ)) → HasCome K.after limits.now first self.old.passed keeper.old (all_kept waiting self.old) more start left
             → HasCome K.after limits.now first self.new.passed keeper.new self.new.kept.items more start left) }
@@ -250,11 +244,9 @@ impl LotReader {
         limits: &Limits,
         keeper: &mut K,
     ) -> Result<bool, FileFault>
-        requires work { IsAtWork self.old }
-        requires goes { GoesOn K.takes limits.now self.old.passed keeper.old }
+        requires reading { IsReading K.takes limits.now self.old keeper.old }
         requires few { length self.old.kept.items ≤ most_of_lot self.old }
-        ensures work { OnOk result (IsAtWork self.new) }
-        ensures goes { OnOk result (GoesOn K.takes limits.now self.new.passed keeper.new) }
+        ensures reading { OnOk result (IsReading K.takes limits.now self.new keeper.new) }
         ensures lot { OnOk result (self.new.lot ≡ self.old.lot) }
         ensures lots { IfOk result (λ more. (first : K) (start : Option (List ℕ)) → HasLots K.after limits.now first self.old.passed keeper.old self.old.kept.items start ((I.view inputs.old).left file)
             → HasCome K.after limits.now first self.new.passed keeper.new self.new.kept.items more start ((I.view inputs.new).left file)) }
@@ -279,8 +271,7 @@ impl LotReader {
         more: bool,
         keeper: &mut K,
     ) -> Result<(), FileFault>
-        requires work { IsAtWork self }
-        requires goes { GoesOn K.takes limits.now self.passed keeper.old }
+        requires reading { IsReading K.takes limits.now self keeper.old }
         ensures ok { OnOk result ((first : K) (start : Option (List ℕ))
             → HasCome K.after limits.now first self.passed keeper.old self.kept.items more start ((I.view inputs.old).left file)
             → ReadsAll K.after limits.now first keeper.new start ((I.view inputs.new).left file)) }

@@ -1,5 +1,5 @@
 //! Whole lines of a file that are read apart from those before them.
-ghost use Rattle.std.specs.Prelude.{◌≡◌, ◌<◌, ◌≤◌, ◌+◌, ◌↔◌, ◌∷◌, ◌++◌, [], ℕ, List, None, IfOk, IfSome, IsTrue, OnOk, false, fold, length, take, true, drop};
+ghost use Rattle.std.specs.Prelude.{◌≡◌, ◌<◌, ◌≤◌, ◌+◌, ◌↔◌, ◌∷◌, ◌++◌, [], ℕ, List, None, IfOk, IfSome, IsNone, IsTrue, OnOk, length, take, drop};
 ghost use Rattle.std.specs.Bool.{OnTrue, OnFalse};
 ghost use Rattle.std.specs.List.{cons_option};
 ghost use Rattle.object_fold.specs.Change.{FollowsAll, last_key};
@@ -57,63 +57,56 @@ impl Part {
     }
 }
 
-/// Gives a keeper entries that come after those that it was given, one after another.
-fn give_all<K: Keeper>(
-    passed: &mut Passed,
-    keeper: &mut K,
-    change: Change,
-) -> Result<(), OutOfMemory>
-    requires takes { TakesNext K.takes passed.old.last keeper.old }
-    requires follows { FollowsAll passed.old.last change }
-    ensures passed { OnOk result (passed.new ≡ record passed.old { last = last_key passed.old.last change }) }
-    ensures kept { OnOk result (keeper.new ≡ fold K.after keeper.old change) }
-    ensures takes { OnOk result (TakesNext K.takes passed.new.last keeper.new) }
+/// The key of the last entry, where these lines stand behind those that were passed.
+fn last_behind(passed: &Passed, part: &Part) -> Option<Key>
+    ensures last { result ≡ last_key passed.now.last part.now.change }
 {
-    for entry in change.into_entries() {
-        let key = entry.key;
-        keeper.keep(entry)?;
-        passed.last = Some(key);
+    match part.change.entries().split_last() {
+        Some((entry, _front)) => Some(entry.key),
+        None => passed.last,
     }
-    Ok(())
 }
 
 /// Gives a keeper the entries of lines that were read apart, where their keys and their numbers allow that they stand behind those that
-/// were passed. `false`: nothing has changed.
-fn append<K: Keeper>(
+/// were passed, and answers what it does not keep of them. `None`: nothing has changed.
+fn give_part<K: Keeper>(
     limits: &Limits,
     passed: &mut Passed,
     keeper: &mut K,
     more: Part,
-) -> Result<bool, OutOfMemory>
+) -> Result<Option<Vec<Entry>>, OutOfMemory>
     requires goes { GoesOn K.takes limits.now passed.old keeper.old }
-    ensures lines { IfOk result (λ taken. taken ≡ true → (bytes : List ℕ) → IsPart limits.now bytes more
-        → TakesLines K.after limits.now passed.old keeper.old bytes passed.new keeper.new []) }
-    ensures left { IfOk result (λ taken. taken ≡ false → (passed.new ≡ passed.old) × (keeper.new ≡ keeper.old)) }
+    ensures lines { IfOk result (λ left. IfSome left (λ _. (bytes : List ℕ) → IsPart limits.now bytes more
+        → TakesLines K.after limits.now passed.old keeper.old bytes passed.new keeper.new [])) }
+    ensures none { IfOk result (λ left. IsNone left → (passed.new ≡ passed.old) × (keeper.new ≡ keeper.old)) }
     ensures goes { OnOk result (GoesOn K.takes limits.now passed.new keeper.new) }
 {
     if !fits_behind(limits, passed, &more) {
-        return Ok(false);
+        return Ok(None);
     }
     // No limit is above that of the program, so both counts fit.
     let _numbers = limits.numbers();
+    let last = last_behind(passed, &more);
     let Part {
         passed: own,
         change,
     } = more;
-    give_all(passed, keeper, change)?;
+    let left = keeper.keep_all(passed.last, change.into_entries())?;
+    passed.last = last;
     passed.lines += own.lines;
     passed.entries += own.entries;
-    Ok(true)
+    Ok(Some(left))
 }
 
 /// Gives a keeper the entries of shares of these bytes, up to the first that may not stand behind the lines that were passed, and answers
-/// how many bytes were taken.
-pub fn append_all<K: Keeper>(
+/// how many bytes were taken. What it does not keep of the entries is put behind `left`.
+pub fn give_shares<K: Keeper>(
     limits: &Limits,
     passed: &mut Passed,
     keeper: &mut K,
     bytes: &[u8],
     shares: Vec<Share>,
+    left: &mut Vec<Vec<Entry>>,
 ) -> Result<usize, OutOfMemory>
     requires goes { GoesOn K.takes limits.now passed.old keeper.old }
     requires shares { AreShares limits.now bytes.now shares.items }
@@ -123,9 +116,10 @@ pub fn append_all<K: Keeper>(
 {
     let mut used = 0;
     for Share { len, part } in shares {
-        if !append(limits, passed, keeper, part)? {
+        let Some(rest) = give_part(limits, passed, keeper, part)? else {
             break;
-        }
+        };
+        left.push(rest)?;
         used += len;
     }
     Ok(used)

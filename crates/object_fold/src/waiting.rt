@@ -6,10 +6,10 @@ ghost use Rattle.osm_base.specs.declared.bounds.limits.LimitNumbers.{LimitNumber
 ghost use Rattle.object_fold.specs.Parts.{AreShares, GoesOn, IsShareOf, TakesLines, bytes_in};
 
 use crate::Keeper;
-use crate::parts::{Share, append_all, read_share};
+use crate::parts::{Share, give_shares, read_share};
 use crate::passed::Passed;
 use crate::share_out::{leave_out, piece_end, pieces_of};
-use osm_base::{Limits, OutOfMemory};
+use osm_base::{Entry, Limits, OutOfMemory};
 use std::alloc::Global;
 use std::mem;
 use std::thread::{Threads, join_mut};
@@ -19,6 +19,8 @@ use std::thread::{Threads, join_mut};
 pub struct Waiting {
     pub bytes: Vec<u8>,
     pub shares: Vec<Share>,
+    /// What the keeper has not kept of the lot before.
+    pub left: Vec<Vec<Entry>>,
 }
 
 impl Waiting {
@@ -30,6 +32,7 @@ impl Waiting {
         Self {
             bytes: Vec::new(alloc),
             shares: Vec::new(alloc),
+            left: Vec::new(alloc),
         }
     }
 
@@ -44,7 +47,7 @@ impl Waiting {
     ) -> Result<usize, OutOfMemory>
         requires goes { GoesOn K.takes limits.now passed.old keeper.old }
         requires shares { AreShares limits.now self.old.bytes.items self.old.shares.items }
-        ensures left { self.new ≡ record self.old { shares = self.new.shares } }
+        ensures bytes { self.new.bytes ≡ self.old.bytes }
         ensures none { self.new.shares.items ≡ [] }
         ensures within { IfOk result (λ used. used ≤ length self.old.bytes.items) }
         ensures lines { IfOk result (λ used.
@@ -52,7 +55,7 @@ impl Waiting {
         ensures goes { OnOk result (GoesOn K.takes limits.now passed.new keeper.new) }
     {
         let shares = mem::replace(&mut self.shares, Vec::new(alloc));
-        append_all(limits, passed, keeper, &self.bytes, shares)
+        give_shares(limits, passed, keeper, &self.bytes, shares, &mut self.left)
     }
 }
 
@@ -119,7 +122,7 @@ fn read_with_others<R: Threads + Sync, K: Keeper>(
 )
     requires goes { GoesOn K.takes limits.now passed.old keeper.old }
     requires waits { AreShares limits.now waiting.old.bytes.items waiting.old.shares.items }
-    ensures left { waiting.new ≡ record waiting.old { shares = waiting.new.shares } }
+    ensures bytes { waiting.new.bytes ≡ waiting.old.bytes }
     ensures none { waiting.new.shares.items ≡ [] }
     ensures given { IfOk result.0 (λ used. (used ≤ length waiting.old.bytes.items)
         × TakesLines K.after limits.now passed.old keeper.old (take used waiting.old.bytes.items) passed.new keeper.new []
@@ -144,7 +147,7 @@ fn read_with_others<R: Threads + Sync, K: Keeper>(
         )
             requires { IsSync R.row × GoesOn K.takes limits.now passed.now keeper.now
                 × AreShares limits.now waiting.now.bytes.items waiting.now.shares.items }
-            ensures { (waiting.exit.now ≡ record waiting.entry.now { shares = waiting.exit.now.shares })
+            ensures { (waiting.exit.now.bytes ≡ waiting.entry.now.bytes)
                 × (waiting.exit.now.shares.items ≡ [])
                 × IfOk result.0 (λ used. (used ≤ length waiting.entry.now.bytes.items)
                 × TakesLines K.after limits.entry.now passed.entry.now keeper.entry.now (take used waiting.entry.now.bytes.items) passed.exit.now keeper.exit.now []
@@ -178,7 +181,7 @@ pub fn read_beside<R: Threads + Sync, K: Keeper>(
     requires workers { 0 < workers }
     requires goes { GoesOn K.takes limits.now passed.old keeper.old }
     requires waits { AreShares limits.now waiting.old.bytes.items waiting.old.shares.items }
-    ensures left { waiting.new ≡ record waiting.old { shares = waiting.new.shares } }
+    ensures bytes { waiting.new.bytes ≡ waiting.old.bytes }
     ensures none { waiting.new.shares.items ≡ [] }
     ensures within { IfOk result (λ read. read.0 ≤ length waiting.old.bytes.items) }
     ensures lines { IfOk result (λ read.
@@ -197,6 +200,8 @@ pub fn read_beside<R: Threads + Sync, K: Keeper>(
     let (given, first, read) = read_with_others(
         rt, alloc, limits, front, &pieces, waiting, passed, keeper,
     );
+    // No thread asks for memory now, so to let go of it makes nobody wait.
+    waiting.left.clear();
     let mut more = read?;
     leave_out(&pieces, &mut more);
     let used = given?;

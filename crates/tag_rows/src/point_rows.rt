@@ -7,7 +7,7 @@ ghost use Rattle.tag_rows.specs.Points.{row_of};
 use crate::point_row::push_point;
 use crate::rows_by_id::RowsById;
 use object_fold::Keeper;
-use osm_base::{Entry, Kind, OutOfMemory};
+use osm_base::{Entry, Key, Kind, OutOfMemory};
 use std::alloc::Global;
 use std::marker::Model;
 
@@ -72,5 +72,18 @@ impl Keeper for PointRows<'_> {
             Kind::Node => self.keep_node(&entry),
             Kind::Way | Kind::Relation => Ok(()),
         }
+    }
+
+    fn keep_all(
+        &mut self,
+        last: Option<Key>,
+        entries: Vec<Entry>,
+    ) -> Result<Vec<Entry>, OutOfMemory> {
+        for entry in &entries {
+            if entry.key.kind == Kind::Node {
+                self.keep_node(entry)?;
+            }
+        }
+        Ok(entries)
     }
 }

@@ -1,16 +1,17 @@
 //! What is kept of the entries of a file for the lines of ways with a tag.
-ghost use Rattle.std.specs.Prelude.{◌≡◌, [], None, Some, IfOk};
+ghost use Rattle.std.specs.Prelude.{◌≡◌, [], None, Some, IfOk, OnOk};
 ghost use Rattle.std.specs.FinMap as map;
 ghost use Rattle.std.specs.Option.{option_map};
 ghost use Rattle.std.specs.Str.{chars};
 ghost use Rattle.osm_base.specs.declared.values.object.Object.TheVariants.{Node, Way};
-ghost use Rattle.object_fold.specs.Change.{Follows, last_key};
+ghost use Rattle.object_fold.specs.Change.{Follows, IsProper, last_key};
 ghost use Rattle.tag_rows.specs.TrimmedChange.{trimmed_entry, trimmed_object, with_entry};
 
 use object_fold::{Change, Keeper};
-use osm_base::{Entry, Ids, Object, OutOfMemory, Place, Tags};
+use osm_base::{Entry, Ids, Key, Object, OutOfMemory, Place, Tags};
 use std::alloc::Global;
 use std::marker::Model;
+use std::mem;
 
 /// The entries of a file, with what can matter for the lines of the ways with a tag of this key.
 #[derive(Drop)]
@@ -50,6 +51,16 @@ impl<'k> TrimmedChange<'k> {
         let Self { change, .. } = self;
         change
     }
+
+    /// Takes the next entry, and leaves in it what is not kept.
+    fn keep_from(&mut self, entry: &mut Entry) -> Result<(), OutOfMemory>
+        requires takes { Follows (last_key None self.old.entries) entry.old.key }
+        requires proper { IsProper entry.old }
+        ensures ok { OnOk result (self.new ≡ with_entry self.old entry.old) }
+    {
+        let entry = trimmed_entry(self.alloc, self.key, entry)?;
+        self.change.keep(entry)
+    }
 }
 
 impl Keeper for TrimmedChange<'_> {
@@ -57,36 +68,43 @@ impl Keeper for TrimmedChange<'_> {
 
     ghost after = { with_entry };
 
-    fn keep(&mut self, entry: Entry) -> Result<(), OutOfMemory> {
-        let entry = trimmed_entry(self.alloc, self.key, entry)?;
-        self.change.keep(entry)
+    fn keep(&mut self, mut entry: Entry) -> Result<(), OutOfMemory> {
+        self.keep_from(&mut entry)?;
+        Ok(())
+    }
+
+    fn keep_all(
+        &mut self,
+        last: Option<Key>,
+        mut entries: Vec<Entry>,
+    ) -> Result<Vec<Entry>, OutOfMemory> {
+        for entry in entries.iter_mut() {
+            self.keep_from(entry)?;
+        }
+        Ok(entries)
     }
 }
 
 /// The entry of what is kept of an object.
-pub fn trimmed_entry(alloc: Global, key: &str, entry: Entry) -> Result<Entry, OutOfMemory>
-    ensures kept { IfOk result (λ kept. kept ≡ trimmed_entry (chars key.now) entry) }
+pub fn trimmed_entry(alloc: Global, key: &str, entry: &mut Entry) -> Result<Entry, OutOfMemory>
+    ensures kept { IfOk result (λ kept. kept ≡ trimmed_entry (chars key.now) entry.old) }
 {
-    let Entry {
-        key: own_key,
-        object,
-    } = entry;
-    let object = match object {
+    let object = match &mut entry.object {
         Some(object) => kept(alloc, key, object)?,
         None => None,
     };
     Ok(Entry {
-        key: own_key,
+        key: entry.key,
         object,
     })
 }
 
 /// What is kept of an object: the place of a node, and the nodes and the one tag of a way.
-fn kept(alloc: Global, key: &str, object: Object) -> Result<Option<Object>, OutOfMemory>
-    ensures kept { IfOk result (λ kept. kept ≡ trimmed_object (chars key.now) object) }
+fn kept(alloc: Global, key: &str, object: &mut Object) -> Result<Option<Object>, OutOfMemory>
+    ensures kept { IfOk result (λ kept. kept ≡ trimmed_object (chars key.now) object.old) }
 {
     match object {
-        Object::Node { place, tags: _tags } => Ok(trimmed_node(alloc, place)),
+        Object::Node { place, tags: _tags } => Ok(trimmed_node(alloc, *place)),
         Object::Way { nodes, tags } => trimmed_way(alloc, key, nodes, tags),
         Object::Relation { .. } => Ok(None),
     }
@@ -105,13 +123,16 @@ fn trimmed_node(alloc: Global, place: Option<Place>) -> Option<Object>
 fn trimmed_way(
     alloc: Global,
     key: &str,
-    nodes: Ids,
-    tags: Tags,
+    nodes: &mut Ids,
+    tags: &Tags,
 ) -> Result<Option<Object>, OutOfMemory>
-    ensures kept { IfOk result (λ kept. kept ≡ option_map (λ value. Way nodes (map.insert map.empty (chars key.now) value)) (map.get tags (chars key.now))) }
+    ensures kept { IfOk result (λ kept. kept ≡ option_map (λ value. Way nodes.old (map.insert map.empty (chars key.now) value)) (map.get tags.now (chars key.now))) }
 {
-    match one_tag(alloc, key, &tags)? {
-        Some(tags) => Ok(Some(Object::Way { nodes, tags })),
+    match one_tag(alloc, key, tags)? {
+        Some(tags) => Ok(Some(Object::Way {
+            nodes: mem::replace(nodes, Ids::new(alloc)),
+            tags,
+        })),
         None => Ok(None),
     }
 }

@@ -16,7 +16,7 @@ use crate::trimmed_change::{TrimmedChange, trimmed_entry};
 use crate::way_row::push_row;
 use dep_closure::ways_due;
 use object_fold::{Change, Keeper};
-use osm_base::{Entry, Ids, Kind, OutOfMemory, TryCopy};
+use osm_base::{Entry, Ids, Key, Kind, OutOfMemory, TryCopy};
 use placed_objects::PlacedObjects;
 use std::alloc::Global;
 use std::marker::Model;
@@ -160,6 +160,16 @@ impl<'k> WayImport<'k> {
             rows,
         })
     }
+
+    /// Takes the next entry, and leaves in it what is not kept.
+    fn keep_from(&mut self, entry: &mut Entry) -> Result<(), OutOfMemory>
+        ensures ok { OnOk result (self.new ≡ after_way self.old entry.old) }
+    {
+        let entry = trimmed_entry(self.alloc, self.key, entry)?;
+        add_way(&entry, &mut self.ways)?;
+        self.objects.apply(entry)?;
+        Ok(())
+    }
 }
 
 impl Keeper for WayImport<'_> {
@@ -167,11 +177,19 @@ impl Keeper for WayImport<'_> {
 
     ghost after = { after_way };
 
-    fn keep(&mut self, entry: Entry) -> Result<(), OutOfMemory> {
-        let entry = trimmed_entry(self.alloc, self.key, entry)?;
-        add_way(&entry, &mut self.ways)?;
-        self.objects.apply(entry)?;
-        Ok(())
+    fn keep(&mut self, mut entry: Entry) -> Result<(), OutOfMemory> {
+        self.keep_from(&mut entry)
+    }
+
+    fn keep_all(
+        &mut self,
+        last: Option<Key>,
+        mut entries: Vec<Entry>,
+    ) -> Result<Vec<Entry>, OutOfMemory> {
+        for entry in entries.iter_mut() {
+            self.keep_from(entry)?;
+        }
+        Ok(entries)
     }
 }
 

@@ -14,7 +14,7 @@ pub returns-in_err-take-clause-left : goal.returns-in_err-take-clause-left
 returns-in_err-take-clause-left g c =
     on_err c.from_residual.result _ (λ first start has.
     lots_stop g.K.Keeper.after c.args.limits.now first c.args.self.passed c.args.keeper.now c.args.self.kept.items (most_kept c.args.self) start ((g.I.Inputs.view c.args.inputs.now).left c.args.file) has
-    c.requires.work.few)
+    c.requires.reading.work.few)
 
 -- the end of the file
 
@@ -22,7 +22,7 @@ pub returns-in_err-finish-clause-left : goal.returns-in_err-finish-clause-left
 returns-in_err-finish-clause-left g c =
     on_err c.from_residual-in_err-finish.result _ (λ first start has.
     lots_stop g.K.Keeper.after c.args.limits.now first c.args.self.passed c.args.keeper.now c.args.self.kept.items (most_kept c.args.self) start ((g.I.Inputs.view c.args.inputs.now).left c.args.file) has
-    c.requires.work.few)
+    c.requires.reading.work.few)
 
 pub returns-then-not-more-clause-ok : goal.returns-then-not-more-clause-ok
 returns-then-not-more-clause-ok g c = λ first start come.
@@ -52,8 +52,8 @@ loop-progress-init g c =
     start ((g.I.Inputs.view c.args.inputs.now).left c.args.file) has in
     record {
       ready = c.in_ok-take.ensures.ready;
-      some = c.requires.work.some;
-      room = c.requires.work.room;
+      some = c.requires.reading.work.some;
+      room = c.requires.reading.work.room;
       read = begun;
       alone = read_never g.I.Inputs.reads g.I.Inputs.view c.args.file laws.reads_none c.args.inputs.now;
     }

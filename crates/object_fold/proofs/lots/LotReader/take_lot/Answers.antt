@@ -3,7 +3,6 @@ use Rattle.std.proofs.lemmas.List.{length-drop, length-take-le, take-append-drop
 use Rattle.std.proofs.lemmas.Grind.{common_steps}
 use Rattle.object_fold.specs.declared.lots.LotReader.{LotReader}
 use Rattle.object_fold.specs.declared.passed.Passed.{Passed}
-use Rattle.object_fold.specs.declared.waiting.Waiting.{Waiting}
 use Rattle.object_fold.specs.Lots.{HasCome, most_kept, most_of_lot}
 use Rattle.object_fold.specs.Parts.{AreShares, TakesLines, bytes_in}
 use Rattle.object_fold.proofs.LotLaws.{fill_stop, filled, lots_stop, taken}
@@ -71,7 +70,7 @@ returns-then-not-is_empty-clause-lots g c = λ first start has.
     let rest = (g.I.Inputs.view c.fill.new.inputs).left c.args.file in
     let same = ap (λ (own : LotReader). own.passed) c.in_ok-more.ensures.same in
     let bytes : c.drop_front.new.kept.items ≡ drop used before =
-    c.in_ok-drop_front.ensures.ok ∙ ap (λ (own : Waiting). drop used own.bytes.items) c.in_ok-used.ensures.left in
+    c.in_ok-drop_front.ensures.ok ∙ ap (λ own. drop used own.items) c.in_ok-used.ensures.bytes in
     subst (λ (own : List ℕ). HasCome g.K.Keeper.after c.args.limits.now first c.read_beside.new.passed c.read_beside.new.keeper (own ++ kept) c.in_ok-more.more start rest) (sym bytes)
     (taken g.K.Keeper.after c.args.limits.now first reader.passed c.args.keeper.now c.read_beside.new.passed c.read_beside.new.keeper before kept c.in_ok-more.more used start rest
     (filled g.K.Keeper.after c.args.limits.now first reader.passed c.args.keeper.now before reader.kept.items kept c.in_ok-more.more start left rest has c.in_ok-more.ensures.bytes)
@@ -119,8 +118,8 @@ returns-clause-lots g c = λ first start has.
     let same = ap (λ (own : LotReader). own.passed) c.in_ok-more.ensures.same in
     let none : c.drop_front.new.kept.items ≡ [] = grind (arith, common_steps) in
     let all : drop used before ++ kept ≡ c.put_aside.new.waiting.bytes.items ++ c.put_aside.new.self.kept.items =
-    ap (λ own. own ++ kept) (sym (c.in_ok-drop_front.ensures.ok ∙ ap (λ (own : Waiting). drop used own.bytes.items)
-    c.in_ok-used.ensures.left) ∙ none)
+    ap (λ own. own ++ kept) (sym (c.in_ok-drop_front.ensures.ok ∙ ap (λ own. drop used own.items)
+    c.in_ok-used.ensures.bytes) ∙ none)
     ∙ sym (take-append-drop count kept)
     ∙ ap (λ own. own ++ drop count kept) (sym c.in_ok-put_aside.ensures.waits)
     ∙ ap (λ own. c.put_aside.new.waiting.bytes.items ++ own) (sym c.in_ok-put_aside.ensures.left) in

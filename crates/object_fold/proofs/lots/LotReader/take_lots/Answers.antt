@@ -24,8 +24,7 @@ pub loop-preserved : goal.loop-preserved
 loop-preserved g c =
     let laws = g.met.I.Inputs g.world.𝓛 g.world.𝓜 g.world.𝓡 ((λ s x. x), (λ x. x), (λ x. x), λ x. x) in
     record {
-      work = c.in_ok-take_lot.ensures.work;
-      goes = c.in_ok-take_lot.ensures.goes;
+      reading = c.in_ok-take_lot.ensures.reading;
       waits = c.in_ok-take_lot.ensures.waits;
       lot = c.in_ok-take_lot.ensures.lot ∙ c.loop.invariant.lot;
       lots = λ first start has. (c.in_ok-take_lot.ensures.lots first start (c.loop.invariant.lots first start has)).lots;

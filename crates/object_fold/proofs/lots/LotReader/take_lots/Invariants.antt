@@ -1,14 +1,12 @@
 use Rattle.std.proofs.Common.{◌≡◌, List, ℕ, Option}
-use Rattle.object_fold.specs.Lots.{HasLots, IsAtWork, Waits, all_kept}
-use Rattle.object_fold.specs.Parts.{GoesOn}
+use Rattle.object_fold.specs.Lots.{HasLots, IsReading, Waits, all_kept}
 use Rattle.object_fold.specs.Reading.{ReadsNoOther}
 use Rattle.object_fold.proofs.lots.LotReader.take_lots.Given as goal
 
 -- so far was read since the start
 abbrev pub invariant-loop : goal.invariant-loop
 invariant-loop g l = record {
-  work : IsAtWork l.self;
-  goes : GoesOn g.K.Keeper.takes l.limits l.self.passed l.keeper;
+  reading : IsReading g.K.Keeper.takes l.limits l.self l.keeper;
   lot : l.self.lot ≡ l.fn.self.lot;
   waits : Waits l.limits l.waiting l.self;
   lots : (first : _) (start : Option (List ℕ)) → HasLots g.K.Keeper.after l.limits first l.fn.self.passed l.fn.keeper

@@ -1,6 +1,6 @@
 use Rattle.std.proofs.Common.{◌≤◌, [], length, drop, take}
 use Rattle.object_fold.specs.Parts.{AreShares, GoesOn, TakesLines}
-use Rattle.object_fold.proofs.parts.append_all.Given as goal
+use Rattle.object_fold.proofs.parts.give_shares.Given as goal
 
 -- the shares that are left are those of the bytes that are left
 abbrev pub invariant-loop-len : goal.invariant-loop-len

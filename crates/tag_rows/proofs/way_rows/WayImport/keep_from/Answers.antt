@@ -3,7 +3,7 @@ use Rattle.std.specs.FinMap as finite
 use Rattle.osm_base.specs.map.Objects.{ObjectSet}
 use Rattle.osm_base.specs.values.Key.{way_key}
 use Rattle.tag_rows.proofs.WayLaws.{more-held}
-use Rattle.tag_rows.proofs.way_rows.WayImportKeeper.keep.Goals as goal
+use Rattle.tag_rows.proofs.way_rows.WayImport.keep_from.Goals as goal
 
 pub invariant_of-self-2 : goal.invariant_of-self-2
 invariant_of-self-2 c = record {
