@@ -2,6 +2,7 @@
 -- docs/FILES.md, "Buckets, and the eight maps": the rows of a node stand in a map of their own, those of ways and relations in another.
 use Rattle.std.specs.Prelude.{◌≡◌, ◌⊎◌, ◌+◌, ◌*◌, ◌/◌, ◌%◌, ◌<◌, ℕ, nat_eq, Bool, true, false, if◌then◌else◌, List, Option, None, Some, IfSome, IsSome}
 use Rattle.std.specs.FinMap as finite
+use Rattle.std.proofs.Props.{props}
 use Rattle.std.specs.List.{AllByRecursion}
 use Rattle.osm_base.specs.declared.values.key.Kind.{Kind}
 use Rattle.osm_base.specs.declared.values.key.Kind.TheVariants as kinds
@@ -65,6 +66,17 @@ GoesWith stored.OtherRows stored.Ways = Unit {0}
 GoesWith stored.OtherRows stored.Relations = Unit {0}
 GoesWith stored.OtherRows stored.OtherRows = Unit {0}
 GoesWith _ _ = ⊥
+
+-- a map is one of these in one way at most
+pub GoesWith-prop : (source : StoreMap) → IsProp (GoesWith (rows_map source) source)
+GoesWith-prop stored.Nodes = hlevel props
+GoesWith-prop stored.Ways = hlevel props
+GoesWith-prop stored.Relations = hlevel props
+GoesWith-prop stored.WaysOfBlocks = hlevel props
+GoesWith-prop stored.RelationsOfNodes = hlevel props
+GoesWith-prop stored.RelationsOfWays = hlevel props
+GoesWith-prop stored.NodeRows = hlevel props
+GoesWith-prop stored.OtherRows = hlevel props
 
 -- the kind of the objects of a map, and whether a map has the rows of nodes
 abbrev pub kind_kept : StoreMap → Option Kind

@@ -3,11 +3,10 @@
 //! Each list that is kept is judged by those that are told to list its id, and each id that somebody is told to list has to have one.
 ghost use Rattle.std.specs.Prelude.{◌≡◌, ◌≤◌, ◌%◌, IsSome, is_some};
 ghost use Rattle.std.specs.FinMap as finite;
-ghost use Rattle.std.specs.List.Sorted.{IsNonDecreasingBy};
 ghost use Rattle.style_read.specs.Style.{StyleOf};
 ghost use Rattle.value_bytes.specs.StoreMap.{number_of};
 ghost use Rattle.bucket_store.specs.Transaction.{IsReady};
-ghost use Rattle.back_index.specs.Filling.{IsKeptAt, id_of, mentions_tell};
+ghost use Rattle.back_index.specs.Filling.{IsKeptAt, mentions_tell};
 ghost use Rattle.store_check.specs.Held.{IsHeldOf};
 ghost use Rattle.store_check.specs.Least.{lesser_of};
 ghost use Rattle.store_check.specs.Lists.{IsLacking};
@@ -18,8 +17,8 @@ ghost use Rattle.store_check.specs.Wrong.{IsLeast, IsLeastOf, IsRightIn};
 use crate::held::Held;
 use crate::least::Least;
 use crate::list_judge::wrong_among;
+use crate::mentions::Mentions;
 use crate::told_lists::told_by_held;
-use back_index::Mention;
 use bucket_store::{Buckets, refuse_value};
 use outside::Disk;
 use page_journal::StoreFault;
@@ -40,7 +39,10 @@ pub fn first_wrong_list<D: Disk>(
         → IsHeldOf nodes ways relations held.now → IsLeast (IsRightIn style rest nodes ways relations map) found) }
 {
     match told_by_held(alloc, map, held) {
-        Ok(mentions) => wrong_list(alloc, buckets, map, mentions.as_slice()),
+        Ok(mentions) => {
+            let all = mentions.as_slice();
+            wrong_list(alloc, buckets, map, &Mentions { all })
+        }
         Err(_) => Err(refuse_value(buckets, map, 0, ValueFault::OutOfMemory)),
     }
 }
@@ -50,12 +52,11 @@ fn wrong_list<D: Disk>(
     alloc: Global,
     buckets: &mut Buckets<'_, D>,
     map: StoreMap,
-    mentions: &[Mention],
+    mentions: &Mentions,
 ) -> Result<Option<u64>, StoreFault>
     requires ready { IsReady buckets.old }
-    requires order { IsNonDecreasingBy id_of mentions.now }
     ensures least { Finds buckets.old buckets.new result (λ rest found.
-        IsLeast (IsKeptAt (mentions_tell mentions.now) (rest.maps (number_of map))) found) }
+        IsLeast (IsKeptAt (mentions_tell mentions.now.all.now) (rest.maps (number_of map))) found) }
 {
     let kept = match wrong_kept(alloc, buckets, map, mentions) {
         Ok(kept) => kept,
@@ -72,13 +73,12 @@ fn wrong_kept<D: Disk>(
     alloc: Global,
     buckets: &mut Buckets<'_, D>,
     map: StoreMap,
-    mentions: &[Mention],
+    mentions: &Mentions,
 ) -> Result<Option<u64>, StoreFault>
     requires ready { IsReady buckets.old }
-    requires order { IsNonDecreasingBy id_of mentions.now }
     ensures least { Finds buckets.old buckets.new result (λ rest found.
         IsLeastOf (λ n. IsSome (finite.get (rest.maps (number_of map)) n))
-        (IsKeptAt (mentions_tell mentions.now) (rest.maps (number_of map))) found) }
+        (IsKeptAt (mentions_tell mentions.now.all.now) (rest.maps (number_of map))) found) }
 {
     let count = buckets.root().buckets;
     let mut found = None;
@@ -99,13 +99,12 @@ fn wrong_in_bucket<D: Disk>(
     buckets: &mut Buckets<'_, D>,
     map: StoreMap,
     bucket: u64,
-    mentions: &[Mention],
+    mentions: &Mentions,
 ) -> Result<Option<u64>, StoreFault>
     requires ready { IsReady buckets.old }
-    requires order { IsNonDecreasingBy id_of mentions.now }
     ensures least { Finds buckets.old buckets.new result (λ rest found.
         IsLeastOf (λ n. IsSome (finite.get (rest.maps (number_of map)) n) × (n % rest.root.buckets ≡ bucket % rest.root.buckets))
-        (IsKeptAt (mentions_tell mentions.now) (rest.maps (number_of map))) found) }
+        (IsKeptAt (mentions_tell mentions.now.all.now) (rest.maps (number_of map))) found) }
 {
     let records = match buckets.records(map, bucket) {
         Ok(records) => records,
@@ -121,14 +120,14 @@ fn wrong_in_bucket<D: Disk>(
 fn lacking<D: Disk>(
     buckets: &mut Buckets<'_, D>,
     map: StoreMap,
-    mentions: &[Mention],
+    mentions: &Mentions,
 ) -> Result<Option<u64>, StoreFault>
     requires ready { IsReady buckets.old }
     ensures least { Finds buckets.old buckets.new result (λ rest found.
-        IsLeast (λ id. ¬ IsLacking (mentions_tell mentions.now) (rest.maps (number_of map)) id) found) }
+        IsLeast (λ id. ¬ IsLacking (mentions_tell mentions.now.all.now) (rest.maps (number_of map)) id) found) }
 {
     let mut least = Least::new();
-    for mention in mentions {
+    for mention in mentions.all {
         match is_kept(buckets, map, mention.id) {
             Ok(is_kept) => least.see(mention.id, is_kept),
             Err(fault) => return Err(fault),

@@ -9,7 +9,7 @@ ghost use Rattle.bucket_store.specs.Image.{Has, Image};
 ghost use Rattle.bucket_store.specs.Transaction.{IsReady};
 ghost use Rattle.store_maps.specs.Asked.{object_map, row_key, row_map};
 ghost use Rattle.store_check.specs.Held.{HeldOf};
-ghost use Rattle.store_check.specs.Judged.{GoesWith, IsAmong, IsAsked, IsFound, IsOne, SeesRows, is_node_rows, kind_kept, Tells, other_at, row_number, rows_map};
+ghost use Rattle.store_check.specs.Judged.{IsAmong, IsAsked, IsFound, IsOne, SeesRows, is_node_rows, kind_kept, Tells, other_at, row_number, rows_map};
 ghost use Rattle.store_check.specs.Reading.{Finds};
 ghost use Rattle.store_check.specs.Values.{NodeMap, ObjectMap, objects_of};
 ghost use Rattle.store_check.specs.Wrong.{IsRightIn};
@@ -17,6 +17,7 @@ ghost use Rattle.store_check.specs.Wrong.{IsRightIn};
 use crate::held::Held;
 use crate::least::Least;
 use crate::row_judge::{is_right_node, is_right_other};
+use crate::row_source::RowSource;
 use bucket_store::Buckets;
 use osm_base::{Bytes, Key, Kind, MAX_ID, OutOfMemory};
 use outside::Disk;
@@ -31,17 +32,16 @@ pub(crate) fn judge_records<D: Disk>(
     buckets: &mut Buckets<'_, D>,
     style: &Style,
     held: &Held,
-    source: StoreMap,
+    source: RowSource,
     records: &[(u64, Bytes)],
     wrong: &mut Least,
 ) -> Result<(), StoreFault>
     requires ready { IsReady buckets.old }
-    requires goes { GoesWith (rows_map source) source }
     ensures sees { Finds buckets.old buckets.new result (λ rest done.
         (nodes : NodeMap) (ways relations : ObjectMap)
         → Tells held.now rest nodes ways relations
-        → AllByRecursion (λ one. finite.get (rest.maps (number_of source)) one.0 ≡ Some one.1) records.now
-        → SeesRows style.now rest nodes ways relations (rows_map source) (IsAmong source records.now) wrong.old wrong.new) }
+        → AllByRecursion (λ one. finite.get (rest.maps (number_of source.map)) one.0 ≡ Some one.1) records.now
+        → SeesRows style.now rest nodes ways relations (rows_map source.map) (IsAmong source.map records.now) wrong.old wrong.new) }
 {
     for (number, bytes) in records {
         if let Err(fault) = judge_record(
@@ -66,17 +66,16 @@ fn judge_record<D: Disk>(
     buckets: &mut Buckets<'_, D>,
     style: &Style,
     held: &Held,
-    source: StoreMap,
+    source: RowSource,
     number: u64,
     bytes: &[u8],
     wrong: &mut Least,
 ) -> Result<(), StoreFault>
     requires ready { IsReady buckets.old }
-    requires goes { GoesWith (rows_map source) source }
     ensures sees { Finds buckets.old buckets.new result (λ rest done.
         (nodes : NodeMap) (ways relations : ObjectMap)
-        → Tells held.now rest nodes ways relations → finite.get (rest.maps (number_of source)) number ≡ Some bytes.now
-        → SeesRows style.now rest nodes ways relations (rows_map source) (IsOne source number) wrong.old wrong.new) }
+        → Tells held.now rest nodes ways relations → finite.get (rest.maps (number_of source.map)) number ≡ Some bytes.now
+        → SeesRows style.now rest nodes ways relations (rows_map source.map) (IsOne source.map number) wrong.old wrong.new) }
 {
     match wrong_key(alloc, buckets, style, held, source, number, bytes) {
         Ok(Some(key)) => {
@@ -94,24 +93,23 @@ fn wrong_key<D: Disk>(
     buckets: &mut Buckets<'_, D>,
     style: &Style,
     held: &Held,
-    source: StoreMap,
+    source: RowSource,
     number: u64,
     bytes: &[u8],
 ) -> Result<Option<u64>, StoreFault>
     requires ready { IsReady buckets.old }
-    requires goes { GoesWith (rows_map source) source }
     ensures found { Finds buckets.old buckets.new result (λ rest found.
         (nodes : NodeMap) (ways relations : ObjectMap)
-        → Tells held.now rest nodes ways relations → finite.get (rest.maps (number_of source)) number ≡ Some bytes.now
-        → IsFound (IsRightIn style.now rest nodes ways relations (rows_map source)) (IsAsked (objects_of nodes ways relations) source number)
-        (row_number source number) found) }
+        → Tells held.now rest nodes ways relations → finite.get (rest.maps (number_of source.map)) number ≡ Some bytes.now
+        → IsFound (IsRightIn style.now rest nodes ways relations (rows_map source.map)) (IsAsked (objects_of nodes ways relations) source.map number)
+        (row_number source.map number) found) }
 {
-    match kind_of(source) {
+    match kind_of(source.map) {
         Some(kind) => match wrong_of_object(alloc, buckets, style, held, kind, number, bytes) {
             Ok(found) => Ok(found),
             Err(fault) => Err(fault),
         },
-        None => match wrong_of_rows(buckets, held, source, number) {
+        None => match wrong_of_rows(buckets, held, source.map, number) {
             Ok(found) => Ok(found),
             Err(fault) => Err(fault),
         },

@@ -5,7 +5,7 @@ ghost use Rattle.value_bytes.specs.StoreMap.{number_of};
 ghost use Rattle.value_bytes.specs.declared.store_map.StoreMap.TheVariants as stored;
 ghost use Rattle.bucket_store.specs.Transaction.{IsReady};
 ghost use Rattle.store_check.specs.Held.{IsHeldOf};
-ghost use Rattle.store_check.specs.Judged.{GoesWith, IsOfBoth, IsOfBucket, IsOfBuckets, SeesHeld, rows_map};
+ghost use Rattle.store_check.specs.Judged.{IsOfBoth, IsOfBucket, IsOfBuckets, SeesHeld, rows_map};
 ghost use Rattle.store_check.specs.Reading.{Finds, IsUnchanged};
 ghost use Rattle.store_check.specs.Values.{NodeMap, ObjectMap, ReadsObjects, objects_of};
 ghost use Rattle.store_check.specs.Wrong.{IsLeast, IsRightIn};
@@ -13,6 +13,7 @@ ghost use Rattle.store_check.specs.Wrong.{IsLeast, IsRightIn};
 use crate::held::Held;
 use crate::least::Least;
 use crate::row_records::judge_records;
+use crate::row_source::RowSource;
 use bucket_store::Buckets;
 use outside::Disk;
 use page_journal::StoreFault;
@@ -81,7 +82,17 @@ fn judge_nodes<D: Disk>(
     ensures sees { Finds buckets.old buckets.new result (λ rest done.
         SeesHeld style.now held.now rest stored.NodeRows (IsOfBuckets stored.NodeRows rest bucket) wrong.old wrong.new) }
 {
-    if let Err(fault) = judge_bucket(alloc, buckets, style, held, StoreMap::Nodes, bucket, wrong) {
+    if let Err(fault) = judge_bucket(
+        alloc,
+        buckets,
+        style,
+        held,
+        RowSource {
+            map: StoreMap::Nodes,
+        },
+        bucket,
+        wrong,
+    ) {
         return Err(fault);
     }
     match judge_apart(
@@ -89,7 +100,9 @@ fn judge_nodes<D: Disk>(
         buckets,
         style,
         held,
-        StoreMap::NodeRows,
+        RowSource {
+            map: StoreMap::NodeRows,
+        },
         bucket,
         wrong,
     ) {
@@ -119,7 +132,9 @@ fn judge_others<D: Disk>(
         buckets,
         style,
         held,
-        StoreMap::OtherRows,
+        RowSource {
+            map: StoreMap::OtherRows,
+        },
         bucket,
         wrong,
     ) {
@@ -141,7 +156,17 @@ fn judge_objects<D: Disk>(
     ensures sees { Finds buckets.old buckets.new result (λ rest done.
         SeesHeld style.now held.now rest stored.OtherRows (IsOfBoth rest bucket) wrong.old wrong.new) }
 {
-    if let Err(fault) = judge_apart(alloc, buckets, style, held, StoreMap::Ways, bucket, wrong) {
+    if let Err(fault) = judge_apart(
+        alloc,
+        buckets,
+        style,
+        held,
+        RowSource {
+            map: StoreMap::Ways,
+        },
+        bucket,
+        wrong,
+    ) {
         return Err(fault);
     }
     match judge_apart(
@@ -149,7 +174,9 @@ fn judge_objects<D: Disk>(
         buckets,
         style,
         held,
-        StoreMap::Relations,
+        RowSource {
+            map: StoreMap::Relations,
+        },
         bucket,
         wrong,
     ) {
@@ -164,14 +191,13 @@ fn judge_apart<D: Disk>(
     buckets: &mut Buckets<'_, D>,
     style: &Style,
     held: &Held,
-    source: StoreMap,
+    source: RowSource,
     bucket: u64,
     wrong: &mut Least,
 ) -> Result<(), StoreFault>
     requires unchanged { IsUnchanged buckets.old }
-    requires goes { GoesWith (rows_map source) source }
     ensures sees { Finds buckets.old buckets.new result (λ rest done.
-        SeesHeld style.now held.now rest (rows_map source) (IsOfBucket source rest bucket) wrong.old wrong.new) }
+        SeesHeld style.now held.now rest (rows_map source.map) (IsOfBucket source.map rest bucket) wrong.old wrong.new) }
 {
     match judge_bucket(alloc, buckets, style, held, source, bucket, wrong) {
         Ok(()) => {
@@ -188,16 +214,15 @@ fn judge_bucket<D: Disk>(
     buckets: &mut Buckets<'_, D>,
     style: &Style,
     held: &Held,
-    source: StoreMap,
+    source: RowSource,
     bucket: u64,
     wrong: &mut Least,
 ) -> Result<(), StoreFault>
     requires ready { IsReady buckets.old }
-    requires goes { GoesWith (rows_map source) source }
     ensures sees { Finds buckets.old buckets.new result (λ rest done.
-        SeesHeld style.now held.now rest (rows_map source) (IsOfBucket source rest bucket) wrong.old wrong.new) }
+        SeesHeld style.now held.now rest (rows_map source.map) (IsOfBucket source.map rest bucket) wrong.old wrong.new) }
 {
-    let records = match buckets.records(source, bucket) {
+    let records = match buckets.records(source.map, bucket) {
         Ok(records) => records,
         Err(fault) => return Err(fault),
     };

@@ -14,12 +14,12 @@ loop-at-init c =
       within = first.within;
       behind = omega arith;
       told = λ by. ap (λ (l : List ℕ). has l by) c.new-ids.ensures.items
-          ∙ sym (none_before c.args.mentions.now c.first_of-at.result c.args.id by first.before first.within);
+          ∙ sym (none_before c.args.mentions.now.all.now c.first_of-at.result c.args.id by first.before first.within);
     }
 
 pub returns : goal.returns
 returns c =
-    let mentions : List Mention = c.args.mentions.now in
+    let mentions : List Mention = c.args.mentions.now.all.now in
     let at : ℕ = c.loop-at.at in
     let ends : (own : Mention) → at < length mentions → c.args.id < (get_or mentions at own).id =
     elim c.loop-at-test.branch [
@@ -34,5 +34,5 @@ returns c =
     ] in
     record {
       told = λ by. c.from_vec.ensures.same by ∙ c.loop-at.invariant.told by
-          ∙ run_ends mentions at c.args.id c.requires.order ends by;
+          ∙ run_ends mentions at c.args.id c.args.mentions.now.order ends by;
     }

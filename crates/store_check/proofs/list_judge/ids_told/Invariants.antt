@@ -6,10 +6,10 @@ use Rattle.store_check.proofs.list_judge.ids_told.Given as goal
 -- those that were told so far
 abbrev pub invariant-loop-at : goal.invariant-loop-at
 invariant-loop-at l = record {
-  within : l.at ≤ length l.mentions;
+  within : l.at ≤ length l.mentions.all.now;
   behind : l.initial.at ≤ l.at;
-  told : (by : ℕ) → has l.ids.items by ≡ mentions_tell (take l.at l.mentions) l.id by;
+  told : (by : ℕ) → has l.ids.items by ≡ mentions_tell (take l.at l.mentions.all.now) l.id by;
 }
 
 abbrev pub decreases-loop-at : goal.decreases-loop-at
-decreases-loop-at l = length l.mentions - l.at
+decreases-loop-at l = length l.mentions.all.now - l.at

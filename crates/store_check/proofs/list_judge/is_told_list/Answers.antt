@@ -7,7 +7,7 @@ use Rattle.store_check.proofs.list_judge.is_told_list.Goals as goal
 
 pub returns : goal.returns
 returns c =
-    let mentions = c.args.mentions.now in
+    let mentions = c.args.mentions.now.all.now in
     let id = c.args.id in
     let mine : List ℕ = c.as_slice.result.now in
     let list : List ℕ = c.in-Ok.list in

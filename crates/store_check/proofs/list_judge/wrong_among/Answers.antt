@@ -14,7 +14,7 @@ loop-key-preserved c kept each =
     let records = c.args.records.now in
     let place = c.loop-key.key-index in
     let one = c.loop-key-item.result in
-    let Is = IsKeptAt (mentions_tell c.args.mentions.now) kept in
+    let Is = IsKeptAt (mentions_tell c.args.mentions.now.all.now) kept in
     let here = told_at (λ (e : ℕ × List ℕ). finite.get kept e.0 ≡ Some e.1) records place one each c.loop-key-test.true c.loop-key-item.is in
     let there = subst (λ (b : List ℕ). finite.get kept one.0 ≡ Some b) (sym c.as_slice.ensures.items) here in
     let both = c.in_ok-is_told.ensures.told kept there in
@@ -29,7 +29,7 @@ returns c = record {
   least = λ kept each.
       let records = c.args.records.now in
       let place = c.loop-key.key-index in
-      let Is = IsKeptAt (mentions_tell c.args.mentions.now) kept in
+      let Is = IsKeptAt (mentions_tell c.args.mentions.now.all.now) kept in
       subst (λ (found : Option ℕ). IsLeastOf (Among records) Is found) (sym c.key.ensures.key)
       (least_fewer Is (Among records) (Among (take place records)) _
       (λ k among. among_all records place k (omega (arith, c.loop-key-test.false)) among)

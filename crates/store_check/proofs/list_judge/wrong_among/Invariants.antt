@@ -10,4 +10,4 @@ use Rattle.store_check.proofs.list_judge.wrong_among.Given as goal
 -- the least wrong one of the records so far
 abbrev pub invariant-loop-key : goal.invariant-loop-key
 invariant-loop-key l = (kept : BucketMap) → AllByRecursion (λ one. finite.get kept one.0 ≡ Some one.1) l.records
-    → IsLeastOf (Among (take l.key-index l.records)) (IsKeptAt (mentions_tell l.mentions) kept) l.least
+    → IsLeastOf (Among (take l.key-index l.records)) (IsKeptAt (mentions_tell l.mentions.all.now) kept) l.least

@@ -7,8 +7,8 @@ use Rattle.store_check.proofs.lists.first_wrong_list.Goals as goal
 
 pub returns-in-Ok : goal.returns-in-Ok
 returns-in-Ok g c =
-    let told : List Mention = c.as_slice.result.now in
-    let same : told ≡ c.in-Ok.mentions.items = cc (c.as_slice.ensures.value) in
+    let told : List Mention = c.as_slice-all.result.now in
+    let same : told ≡ c.in-Ok.mentions.items = cc (c.as_slice-all.ensures.value) in
     record {
       least = record {
         has = c.wrong_list.ensures.least.has;

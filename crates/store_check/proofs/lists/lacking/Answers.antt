@@ -25,7 +25,7 @@ loop-mention-preserved g c =
     let old = c.args.buckets.now in
     let mid = c.loop-mention.buckets in
     let new = c.is_kept.new.buckets in
-    let mentions : List Mention = c.args.mentions.now in
+    let mentions : List Mention = c.args.mentions.now.all.now in
     let at : ℕ = c.loop-mention.mention-index in
     let none : Mention = record { id = 0; own = 0 } in
     let own : Mention = get_or mentions at none in
@@ -56,7 +56,7 @@ returns g c =
     let read = c.loop-mention.invariant in
     record {
       least = found_all c.args.buckets.now c.loop-mention.buckets _ read.going read.still read.same read.stays read.has (λ rest has.
-          let mentions : List Mention = c.args.mentions.now in
+          let mentions : List Mention = c.args.mentions.now.all.now in
           let kept = rest.maps (number_of c.args.map) in
           let Is = λ (id : ℕ). ¬ IsLacking (mentions_tell mentions) kept id in
           let all : take c.loop-mention.mention-index mentions ≡ mentions =

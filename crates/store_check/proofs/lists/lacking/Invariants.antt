@@ -19,6 +19,6 @@ invariant-loop-mention g l = record {
   stays : OnlyRead (chains_of l.initial.buckets) (chains_of l.buckets);
   has : (rest : Image) → Has rest rest l.initial.buckets → Has rest rest l.buckets;
   least : (rest : Image) → Has rest rest l.initial.buckets
-      → IsLeastOf (λ id. is_named (take l.mention-index l.mentions) id ≡ true)
-      (λ id. ¬ IsLacking (mentions_tell l.mentions) (rest.maps (number_of l.map)) id) l.least;
+      → IsLeastOf (λ id. is_named (take l.mention-index l.mentions.all.now) id ≡ true)
+      (λ id. ¬ IsLacking (mentions_tell l.mentions.all.now) (rest.maps (number_of l.map)) id) l.least;
 }

@@ -35,7 +35,7 @@ returns-in-Ok-wrong_among g c = record {
         let bucket : ℕ = c.args.bucket % rest.root.buckets in
         let are = c.in-Ok.ensures.records.found rest rest has in
         let same : c.as_slice.result.now ≡ records = cc (c.as_slice.ensures.value) in
-        let Is = IsKeptAt (mentions_tell c.args.mentions.now) kept in
+        let Is = IsKeptAt (mentions_tell c.args.mentions.now.all.now) kept in
         let each = records_kept which rest bucket records are in
         let least = c.in-Ok-wrong_among.ensures.least kept
         (subst (λ (l : List (ℕ × List ℕ)). AllByRecursion (λ one. finite.get kept one.0 ≡ Some one.1) l) (sym same) each) in

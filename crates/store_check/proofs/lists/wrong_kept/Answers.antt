@@ -38,7 +38,7 @@ loop-bucket-preserved g c =
       least = λ rest had.
           let count : c.root-count.result.buckets ≡ rest.root.buckets = ap (λ (r : Root). r.buckets) (c.root-count.ensures ∙ had.root) in
           let kept = rest.maps (number_of c.args.map) in
-          let Is = IsKeptAt (mentions_tell c.args.mentions.now) kept in
+          let Is = IsKeptAt (mentions_tell c.args.mentions.now.all.now) kept in
           subst (λ (l : Option ℕ). IsLeastOf (λ n. IsSome (finite.get kept n) × (n % rest.root.buckets < bucket + 1)) Is l)
           (sym c.lesser_of-found.ensures.lesser)
           (least_both Is (λ n. IsSome (finite.get kept n) × (n % rest.root.buckets < bucket))
@@ -58,7 +58,7 @@ returns g c =
           let count : c.root-count.result.buckets ≡ rest.root.buckets = ap (λ (r : Root). r.buckets) (c.root-count.ensures ∙ has.root) in
           let own : bucket_count (chains_of c.args.buckets.now) ≡ rest.root.buckets = ap (λ (r : Root). r.buckets) has.root in
           let kept = rest.maps (number_of c.args.map) in
-          least_fewer (IsKeptAt (mentions_tell c.args.mentions.now) kept) (λ n. IsSome (finite.get kept n))
+          least_fewer (IsKeptAt (mentions_tell c.args.mentions.now.all.now) kept) (λ n. IsSome (finite.get kept n))
           (λ n. IsSome (finite.get kept n) × (n % rest.root.buckets < c.loop-bucket.bucket)) c.loop-bucket.found
           (λ n some.
           let low : n % rest.root.buckets < rest.root.buckets = mod-lt n (omega (arith, c.requires.ready.some, own)) in

@@ -20,7 +20,7 @@ invariant-loop-bucket g l = record {
   has : (rest : Image) → Has rest rest l.initial.buckets → Has rest rest l.buckets;
   least : (rest : Image) → Has rest rest l.initial.buckets
       → IsLeastOf (λ n. IsSome (finite.get (rest.maps (number_of l.map)) n) × (n % rest.root.buckets < l.bucket))
-      (IsKeptAt (mentions_tell l.mentions) (rest.maps (number_of l.map))) l.found;
+      (IsKeptAt (mentions_tell l.mentions.all.now) (rest.maps (number_of l.map))) l.found;
 }
 
 abbrev pub decreases-loop-bucket : goal.decreases-loop-bucket

@@ -14,7 +14,7 @@ pub returns-in-Ok-lacking : goal.returns-in-Ok-lacking
 returns-in-Ok-lacking g c = record {
   least = both_find c.in-Ok.ensures.least c.in-Ok-lacking.ensures.least (λ rest has one other.
       let kept = rest.maps (number_of c.args.map) in
-      let told = mentions_tell c.args.mentions.now in
+      let told = mentions_tell c.args.mentions.now.all.now in
       subst (λ (l : Option ℕ). IsLeast (IsKeptAt told kept) l) (sym c.lesser_of.ensures.lesser)
       (all_judged told kept c.in-Ok.kept c.in-Ok-lacking.other one other));
 }

@@ -14,9 +14,9 @@ returns-in-Err g c = record { sees = finds_err c.in-Err.ensures.found }
 pub returns-in-Ok-Some : goal.returns-in-Ok-Some
 returns-in-Ok-Some g c = record {
   sees = finds_ok c.in-Ok-Some.ensures.found (λ rest had own nodes ways relations tells there.
-      let Is = IsRightIn c.args.style.now rest nodes ways relations (rows_map c.args.source) in
+      let Is = IsRightIn c.args.style.now rest nodes ways relations (rows_map c.args.source.map) in
       let Asked = IsAsked (objects_of nodes ways relations) in
-      let source = c.args.source in
+      let source = c.args.source.map in
       let number = c.args.number in
       let old = c.args.wrong.now in
       let found : IsFound Is (Asked source number) (row_number source number) (Some c.in-Ok-Some.key) =
@@ -30,9 +30,9 @@ returns-in-Ok-Some g c = record {
 pub returns-in-Ok-None : goal.returns-in-Ok-None
 returns-in-Ok-None g c = record {
   sees = finds_ok c.in-Ok-None.ensures.found (λ rest had own nodes ways relations tells there.
-      sees_right (IsRightIn c.args.style.now rest nodes ways relations (rows_map c.args.source)) (IsAsked (objects_of nodes ways relations))
-      c.args.source c.args.number c.args.wrong.now
-      (subst (λ (found : Option ℕ). IsFound (IsRightIn c.args.style.now rest nodes ways relations (rows_map c.args.source))
-      (IsAsked (objects_of nodes ways relations) c.args.source c.args.number) (row_number c.args.source c.args.number) found)
+      sees_right (IsRightIn c.args.style.now rest nodes ways relations (rows_map c.args.source.map)) (IsAsked (objects_of nodes ways relations))
+      c.args.source.map c.args.number c.args.wrong.now
+      (subst (λ (found : Option ℕ). IsFound (IsRightIn c.args.style.now rest nodes ways relations (rows_map c.args.source.map))
+      (IsAsked (objects_of nodes ways relations) c.args.source.map c.args.number) (row_number c.args.source.map c.args.number) found)
       c.in-Ok-None.field-0-is (own nodes ways relations tells there)));
 }

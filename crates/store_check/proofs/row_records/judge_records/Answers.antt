@@ -21,7 +21,7 @@ loop-number-preserved g c =
     let old = c.args.buckets.now in
     let mid = c.loop-number.buckets in
     let new = c.judge_record.new.buckets in
-    let source = c.args.source in
+    let source = c.args.source.map in
     let records = c.args.records.now in
     let place = c.loop-number.number-index in
     let one = c.loop-number-item.result in
@@ -53,7 +53,7 @@ returns g c =
     record {
       sees = found_all c.args.buckets.now c.loop-number.buckets _ looked.ready.going looked.still looked.same looked.stays looked.has
           (λ rest had nodes ways relations tells each.
-          let source = c.args.source in
+          let source = c.args.source.map in
           let records = c.args.records.now in
           let place = c.loop-number.number-index in
           sees_fewer (IsRightIn c.args.style.now rest nodes ways relations (rows_map source)) (IsAsked (objects_of nodes ways relations))

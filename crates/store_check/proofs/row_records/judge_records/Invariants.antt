@@ -20,7 +20,7 @@ invariant-loop-number g l = record {
   has : (rest : Image) → Has rest rest l.initial.buckets → Has rest rest l.buckets;
   sees : (rest : Image) → Has rest rest l.initial.buckets → (nodes : NodeMap) (ways relations : ObjectMap)
       → Tells l.held rest nodes ways relations
-      → AllByRecursion (λ one. finite.get (rest.maps (number_of l.source)) one.0 ≡ Some one.1) l.records
-      → SeesRows l.style rest nodes ways relations (rows_map l.source) (IsAmong l.source (take l.number-index l.records)) l.initial.wrong
+      → AllByRecursion (λ one. finite.get (rest.maps (number_of l.source.map)) one.0 ≡ Some one.1) l.records
+      → SeesRows l.style rest nodes ways relations (rows_map l.source.map) (IsAmong l.source.map (take l.number-index l.records)) l.initial.wrong
       l.wrong;
 }

@@ -17,7 +17,7 @@ returns-in-Err-wrong_of_rows g c = record { found = finds_err c.in-Err-wrong_of_
 pub returns-in-Ok : goal.returns-in-Ok
 returns-in-Ok g c = record {
   found = finds_ok c.in-Ok.ensures.found (λ rest had own nodes ways relations tells there.
-      let source = c.args.source in
+      let source = c.args.source.map in
       let kind = c.in-Some.kind in
       let same : kind_kept source ≡ Some kind = sym c.kind_of.ensures.kind ∙ c.in-Some.is in
       object_found c.args.style.now rest nodes ways relations c.args.number c.in-Ok.found source kind same
@@ -29,10 +29,10 @@ returns-in-Ok g c = record {
 pub returns-in-Ok-wrong_of_rows : goal.returns-in-Ok-wrong_of_rows
 returns-in-Ok-wrong_of_rows g c = record {
   found = finds_ok c.in-Ok-wrong_of_rows.ensures.others (λ rest had own nodes ways relations tells there.
-      let source = c.args.source in
+      let source = c.args.source.map in
       let none : kind_kept source ≡ None = sym c.kind_of.ensures.kind ∙ c.in-None.is in
       rows_found c.args.style.now rest nodes ways relations c.args.number c.in-Ok-wrong_of_rows.found c.args.bytes.now source none
-      c.requires.goes there
+      c.args.source.goes there
       (λ is kept. c.in-Ok-wrong_of_rows.ensures.nodes is rest had c.args.style.now nodes ways relations tells c.args.bytes.now kept)
       (λ is kept. own is c.args.style.now nodes ways relations tells c.args.bytes.now kept));
 }

@@ -12,7 +12,6 @@ pub judge_apart-requires : goal.judge_apart-requires
 judge_apart-requires g c = record {
   unchanged = unchanged_then c.args.buckets.now c.judge_objects.new.buckets c.requires.unchanged c.in_default.ensures.sees.looks.refused
       c.in_default.ensures.sees.looks.stays;
-  goes = tt;
 }
 
 pub returns-in-Ok : goal.returns-in-Ok
