@@ -2,7 +2,8 @@
 ghost use Rattle.std.specs.Prelude.{◌<◌};
 
 use crate::entries::{inputs_of, put_entries};
-use object_fold::read_by_lots;
+use crate::handing::Copies;
+use object_fold::{Change, read_by_lots, scan_by_lots};
 use osm_base::Limits;
 use std::alloc::{AllocError, Global};
 use std::thread::Threads;
@@ -35,7 +36,9 @@ pub fn is_read_by_lots<R: Threads + Sync>(
     };
     for lot in first..end {
         for workers in 1..5u32 {
-            if !gives(rt, alloc, limits, file, call, workers, lot, wanted)? {
+            if !gives(rt, alloc, limits, file, call, workers, lot, wanted)?
+                || !hands(rt, alloc, limits, file, call, workers, lot, wanted)?
+            {
                 return Ok(false);
             }
         }
@@ -63,5 +66,32 @@ fn gives<R: Threads + Sync>(
     let mut found = Vec::new(alloc);
     let read = read_by_lots(rt, alloc, &mut inputs, 0, limits, workers, lot);
     put_entries(alloc, &mut found, &read)?;
+    Ok(found.as_slice() == wanted)
+}
+
+/// Whether it gives this to one who hands all entries back, too.
+fn hands<R: Threads + Sync>(
+    rt: &R,
+    alloc: Global,
+    limits: &Limits,
+    file: &[u8],
+    call: u64,
+    workers: u32,
+    lot: usize,
+    wanted: &[u8],
+) -> Result<bool, AllocError>
+    requires { (0 < workers) × (0 < lot) }
+{
+    let bytes = Vec::from_slice(alloc, file)?;
+    let Ok(mut inputs) = inputs_of(alloc, bytes, call) else {
+        return Ok(false);
+    };
+    let mut copies = Copies {
+        alloc,
+        change: Change::new(alloc),
+    };
+    let read = scan_by_lots(rt, alloc, &mut inputs, 0, limits, workers, lot, &mut copies);
+    let mut found = Vec::new(alloc);
+    put_entries(alloc, &mut found, &read.map(|()| copies.change))?;
     Ok(found.as_slice() == wanted)
 }

@@ -20,6 +20,7 @@ mod cuts;
 mod cutting;
 mod dice;
 mod entries;
+mod handing;
 mod key;
 mod lines;
 mod lots;
