@@ -1,19 +1,22 @@
 -- Calls that find something in a store, one after another.
-use Rattle.std.proofs.Common.{◌≡◌, ◌||◌, Bool, true, false, Ok, Err, refl, sym, ap, ◌∙◌}
+use Rattle.std.proofs.Common.{◌≡◌, ◌||◌, Bool, true, false, Result, Ok, Err, refl, sym, ap, subst, ◌∙◌, arith}
+use Rattle.std.proofs.lemmas.Result.{IfOk-weaker}
 use Rattle.outside.specs.declared.disk.Disk.{Ghosts}
+use Rattle.page_journal.specs.Answers.{answers_disk_fault}
 use Rattle.page_journal.specs.Journal.{is_broken}
 use Rattle.page_journal.specs.declared.fault.StoreFault.{StoreFault}
 use Rattle.page_journal.specs.declared.fault.StoreFault.TheVariants.{NotFormatted, NotEmpty, BadStore, DiskFault, StoreFull, Broken}
 use Rattle.page_journal.specs.declared.fault.StoreFault.TheVariants.{OutOfMemory}
 use Rattle.chain_store.specs.Answers.{IsReadAnswer}
-use Rattle.chain_store.specs.Chains.{OnlyRead, journal_of}
-use Rattle.bucket_store.specs.Image.{Has, Image, OnlyLooks}
-use Rattle.bucket_store.specs.Transaction.{chains_of, has_refused}
+use Rattle.chain_store.specs.Chains.{disk_of, journal_of}
+use Rattle.bucket_store.specs.Image.{Has, Image}
+use Rattle.bucket_store.specs.Transaction.{chains_of}
 use Rattle.bucket_store.specs.declared.buckets.Buckets.{Buckets}
-use Rattle.bucket_store.proofs.Holding.{looks_same}
-use Rattle.row_store.specs.Loading.{Looks}
-use Rattle.row_store.proofs.LookLaws.{looks_on, read_same, sound_err, still_whole}
-use Rattle.store_check.specs.Reading.{Finds}
+use Rattle.bucket_store.proofs.Holding.{looks_same, looks_then}
+use Rattle.row_store.proofs.LookLaws.{read_same, read_then, rose_later, sound_err}
+use Rattle.store_check.specs.Finds.{Finds, FindsThere, Peeks, Saw}
+use Rattle.store_check.specs.declared.reading.Reading.{Reading}
+use Rattle.store_check.proofs.Taking.{on_ok}
 
 or_false : (b : Bool) → (b || false) ≡ b
 or_false true = refl
@@ -30,109 +33,195 @@ read_answer T U broken (StoreFull pages) is = is
 read_answer T U broken Broken is = is
 read_answer T U broken OutOfMemory is = is
 
-module _ {D : Type 0} {g : Ghosts D} {T U : Type 0} where
-  ok_looks : (old new : Buckets D g) (value : T) (answer : U) → Looks old new (Ok value) → Looks old new (Ok answer)
-  ok_looks old new value answer looks = record {
-    same = looks.same;
-    stays = looks.stays;
-    alone = tt;
-    broken = looks.broken;
-    refused = looks.refused;
-    cause = record { later = looks.cause.later; failed = λ is. absurd (cc) };
-  }
-
-  err_looks : (old new : Buckets D g) (fault : StoreFault) → Looks {T = T} old new (Err fault) → Looks {T = U} old new (Err fault)
-  err_looks old new fault looks = record {
-    same = looks.same;
-    stays = looks.stays;
-    alone = read_answer T U (is_broken (journal_of (chains_of old))) fault looks.alone;
-    broken = looks.broken;
-    refused = looks.refused;
+module _ {D : Type 0} {g : Ghosts D} (T U : Type 0) where
+  pub peeks_as : (old new : Buckets D g) (fault : StoreFault) → Peeks {T = T} old new (Err fault) → Peeks {T = U} old new (Err fault)
+  peeks_as old new fault peeks = record {
+    same = peeks.same;
+    stays = peeks.stays;
+    alone = read_answer T U (is_broken (journal_of (chains_of old))) fault peeks.alone;
+    broken = peeks.broken;
     cause = record {
-      later = looks.cause.later;
-      failed = λ is. let same : fault ≡ DiskFault = cc (is) in looks.cause.failed (ap (λ (f : StoreFault). Err f) same);
+      later = peeks.cause.later;
+      failed = λ is. let same : fault ≡ DiskFault = cc (is) in peeks.cause.failed (ap (λ (f : StoreFault). Err f) same);
     };
   }
+
+  pub peeks_told : (old new : Buckets D g) (value : T) (answer : U) → Peeks old new (Ok value) → Peeks old new (Ok answer)
+  peeks_told old new value answer peeks = record {
+    same = peeks.same;
+    stays = peeks.stays;
+    alone = tt;
+    broken = peeks.broken;
+    cause = record { later = peeks.cause.later; failed = λ is. absurd (cc) };
+  }
+
+module _ {D : Type 0} {g : Ghosts D} {U : Type 0} where
+  -- calls that were all answered leave what one leaves that is, or that memory refuses
+  saw_peeks : (old new : Reading D g) (answer : U) → Saw old new → Peeks old.buckets.now new.buckets.now (Ok answer)
+  saw_peeks old new answer saw = record {
+    same = saw.same;
+    stays = saw.stays;
+    alone = tt;
+    broken = saw.still ∙ sym (or_false (is_broken (journal_of (chains_of old.buckets.now))));
+    cause = record { later = saw.same.later; failed = λ is. absurd (cc) };
+  }
+
+  saw_memory : (old new : Reading D g) → Saw old new → Peeks {T = U} old.buckets.now new.buckets.now (Err OutOfMemory)
+  saw_memory old new saw = record {
+    same = saw.same;
+    stays = saw.stays;
+    alone = tt;
+    broken = saw.still ∙ sym (or_false (is_broken (journal_of (chains_of old.buckets.now))));
+    cause = record { later = saw.same.later; failed = λ is. absurd (cc) };
+  }
+
+  peeks_on : (old mid new : Reading D g) (result : Result U StoreFault) → Saw old mid → Peeks mid.buckets.now new.buckets.now result
+      → Peeks old.buckets.now new.buckets.now result
+  peeks_on old mid new result saw peeks = record {
+    same = looks_then old.buckets.now mid.buckets.now new.buckets.now saw.same peeks.same;
+    stays = read_then old.buckets.now mid.buckets.now new.buckets.now saw.stays peeks.stays;
+    alone = subst (λ (b : Bool). IsReadAnswer b result) saw.still peeks.alone;
+    broken = peeks.broken ∙ ap (λ (b : Bool). b || answers_disk_fault result) saw.still;
+    cause = record {
+      later = omega (arith, saw.same.later, peeks.cause.later);
+      failed = λ is. rose_later (disk_of (chains_of old.buckets.now)).faults (disk_of (chains_of mid.buckets.now)).faults
+          (disk_of (chains_of new.buckets.now)).faults saw.same.later (peeks.cause.failed is);
+    };
+  }
+
+module _ {D : Type 0} {g : Ghosts D} where
+  pub saw_none : (reading : Reading D g) → Saw reading reading
+  saw_none reading = record {
+    loan = refl;
+    same = looks_same reading.buckets.now;
+    stays = read_same reading.buckets.now;
+    still = refl;
+    has = λ rest had. had;
+  }
+
+  pub saw_both : {old mid new : Reading D g} → Saw old mid → Saw mid new → Saw old new
+  saw_both {old} {mid} {new} first second = record {
+    loan = second.loan ∙ first.loan;
+    same = looks_then old.buckets.now mid.buckets.now new.buckets.now first.same second.same;
+    stays = read_then old.buckets.now mid.buckets.now new.buckets.now first.stays second.stays;
+    still = second.still ∙ first.still;
+    has = λ rest had. second.has rest (first.has rest had);
+  }
+
+module _ {D : Type 0} {g : Ghosts D} {T : Type 0} {Own : Image → T → Type 0} where
+  pub saw_it : {old new : Reading D g} {value : T} → Finds old new (Ok value) Own → Saw old new
+  saw_it {old} {new} {value} own = record {
+    loan = own.loan;
+    same = own.peeks.same;
+    stays = own.peeks.stays;
+    still = own.peeks.broken ∙ or_false (is_broken (journal_of (chains_of old.buckets.now)));
+    has = own.has;
+  }
+
+  -- a call more
+  pub saw_then : {old mid new : Reading D g} {value : T} → Saw old mid → Finds mid new (Ok value) Own → Saw old new
+  saw_then saw own = saw_both saw (saw_it own)
 
 module _ {D : Type 0} {g : Ghosts D} {U : Type 0} {Is : Image → U → Type 0} where
   -- of calls that were all answered, as a loop makes them
-  pub found_all : (old new : Buckets D g) (answer : U) → has_refused new ≡ false
-      → is_broken (journal_of (chains_of new)) ≡ is_broken (journal_of (chains_of old)) → OnlyLooks old new
-      → OnlyRead (chains_of old) (chains_of new) → ((rest : Image) → Has rest rest old → Has rest rest new)
-      → ((rest : Image) → Has rest rest old → Is rest answer) → Finds old new (Ok answer) Is
-  found_all old new answer going still same stays has step = record {
+  pub found_all : {old new : Reading D g} {answer : U} → Saw old new → ((rest : Image) → Has rest rest old.buckets.now → Is rest answer)
+      → Finds old new (Ok answer) Is
+  found_all {old} {new} {answer} saw step = record {
+    loan = saw.loan;
     so = step;
-    has = has;
+    has = saw.has;
     sound = λ rest had. tt;
-    looks = record {
-      same = same;
-      stays = stays;
-      alone = tt;
-      broken = still ∙ sym (or_false (is_broken (journal_of (chains_of old))));
-      refused = going;
-      cause = record { later = same.later; failed = λ is. absurd (cc) };
-    };
+    peeks = saw_peeks old new answer saw;
+  }
+
+  -- memory may run out behind them
+  pub lacks_memory : {old new : Reading D g} → Saw old new → Finds old new (Err OutOfMemory) Is
+  lacks_memory {old} {new} saw = record {
+    loan = saw.loan;
+    so = tt;
+    has = tt;
+    sound = λ rest had. tt;
+    peeks = saw_memory old new saw;
   }
 
   -- where nothing was read
-  pub finds_here : (buckets : Buckets D g) (answer : U) → has_refused buckets ≡ false
-      → ((rest : Image) → Has rest rest buckets → Is rest answer) → Finds buckets buckets (Ok answer) Is
-  finds_here buckets answer going step =
-      found_all buckets buckets answer going refl (looks_same buckets) (read_same buckets) (λ rest had. had) step
+  pub finds_here : {reading : Reading D g} {answer : U} → ((rest : Image) → Has rest rest reading.buckets.now → Is rest answer)
+      → Finds reading reading (Ok answer) Is
+  finds_here {reading} {answer} step = found_all (saw_none reading) step
+
+module _ {D : Type 0} {g : Ghosts D} {T : Type 0} {Own : Image → T → Type 0} where
+  -- what a call finds is also so
+  pub finds_as : {old new : Reading D g} {result : Result T StoreFault} {Also : Image → T → Type 0} → Finds old new result Own
+      → ((rest : Image) → Has rest rest old.buckets.now → (answer : T) → Own rest answer → Also rest answer) → Finds old new result Also
+  finds_as {old} {new} {result} {Also} own step = record {
+    loan = own.loan;
+    so = IfOk-weaker result (λ answer. (rest : Image) → Has rest rest old.buckets.now → Own rest answer)
+        (λ answer. (rest : Image) → Has rest rest old.buckets.now → Also rest answer)
+        (λ answer is rest had. step rest had answer (is rest had)) own.so;
+    has = own.has;
+    sound = own.sound;
+    peeks = own.peeks;
+  }
+
+  pub finds_behind : {old mid new : Reading D g} {result : Result T StoreFault} {Also : Image → T → Type 0} → Saw old mid
+      → Finds mid new result Own → ((rest : Image) → Has rest rest old.buckets.now → (answer : T) → Own rest answer → Also rest answer)
+      → Finds old new result Also
+  finds_behind {old} {mid} {new} {result} {Also} saw own step = record {
+    loan = own.loan ∙ saw.loan;
+    so = IfOk-weaker result (λ answer. (rest : Image) → Has rest rest mid.buckets.now → Own rest answer)
+        (λ answer. (rest : Image) → Has rest rest old.buckets.now → Also rest answer)
+        (λ answer is rest had. step rest had answer (is rest (saw.has rest had))) own.so;
+    has = on_ok result (λ has rest had. has rest (saw.has rest had)) own.has;
+    sound = λ rest had. own.sound rest (saw.has rest had);
+    peeks = peeks_on old mid new result saw own.peeks;
+  }
 
 module _ {D : Type 0} {g : Ghosts D} {T U : Type 0} {Own : Image → T → Type 0} {Is : Image → U → Type 0} where
   -- what one call found is what another finds
-  pub finds_ok : {old new : Buckets D g} {value : T} {answer : U} → Finds old new (Ok value) Own
-      → ((rest : Image) → Has rest rest old → Own rest value → Is rest answer) → Finds old new (Ok answer) Is
-  finds_ok {old} {new} {value} {answer} own step = record {
-    so = λ rest had. step rest had (own.so rest had);
-    has = own.has;
-    sound = λ rest had. tt;
-    looks = ok_looks old new value answer own.looks;
-  }
+  pub finds_ok : {old new : Reading D g} {value : T} {answer : U} → Finds old new (Ok value) Own
+      → ((rest : Image) → Has rest rest old.buckets.now → Own rest value → Is rest answer) → Finds old new (Ok answer) Is
+  finds_ok own step = found_all (saw_it own) (λ rest had. step rest had (own.so rest had))
 
-  pub finds_err : {old new : Buckets D g} {fault : StoreFault} → Finds old new (Err fault) Own → Finds old new (Err fault) Is
+  pub finds_err : {old new : Reading D g} {fault : StoreFault} → Finds old new (Err fault) Own → Finds old new (Err fault) Is
   finds_err {old} {new} {fault} own = record {
+    loan = own.loan;
     so = tt;
     has = tt;
     sound = λ rest had. sound_err {T = T} U (Err fault) fault refl (own.sound rest had);
-    looks = err_looks old new fault own.looks;
+    peeks = peeks_as T U old.buckets.now new.buckets.now fault own.peeks;
   }
 
   -- and behind calls that were all answered
-  pub then_finds : {old mid new : Buckets D g} {value : T} {answer : U}
-      → is_broken (journal_of (chains_of mid)) ≡ is_broken (journal_of (chains_of old)) → OnlyLooks old mid
-      → OnlyRead (chains_of old) (chains_of mid) → ((rest : Image) → Has rest rest old → Has rest rest mid) → Finds mid new (Ok value) Own
-      → ((rest : Image) → Has rest rest old → Own rest value → Is rest answer) → Finds old new (Ok answer) Is
-  then_finds {old} {mid} {new} {value} {answer} still same stays has own step = record {
-    so = λ rest had. step rest had (own.so rest (has rest had));
-    has = λ rest had. own.has rest (has rest had);
-    sound = λ rest had. tt;
-    looks = looks_on old mid new (Ok answer) same stays still (ok_looks mid new value answer own.looks);
-  }
+  pub then_finds : {old mid new : Reading D g} {value : T} {answer : U} → Saw old mid → Finds mid new (Ok value) Own
+      → ((rest : Image) → Has rest rest old.buckets.now → Own rest value → Is rest answer) → Finds old new (Ok answer) Is
+  then_finds saw own step = found_all (saw_then saw own) (λ rest had. step rest had (own.so rest (saw.has rest had)))
 
-  pub then_refuses : {old mid new : Buckets D g} {fault : StoreFault}
-      → is_broken (journal_of (chains_of mid)) ≡ is_broken (journal_of (chains_of old)) → OnlyLooks old mid
-      → OnlyRead (chains_of old) (chains_of mid) → ((rest : Image) → Has rest rest old → Has rest rest mid) → Finds mid new (Err fault) Own
+  pub then_refuses : {old mid new : Reading D g} {fault : StoreFault} → Saw old mid → Finds mid new (Err fault) Own
       → Finds old new (Err fault) Is
-  then_refuses {old} {mid} {new} {fault} still same stays has own = record {
+  then_refuses {old} {mid} {new} {fault} saw own = record {
+    loan = own.loan ∙ saw.loan;
     so = tt;
     has = tt;
-    sound = λ rest had. sound_err {T = T} U (Err fault) fault refl (own.sound rest (has rest had));
-    looks = looks_on old mid new (Err fault) same stays still (err_looks mid new fault own.looks);
+    sound = λ rest had. sound_err {T = T} U (Err fault) fault refl (own.sound rest (saw.has rest had));
+    peeks = peeks_on old mid new (Err fault) saw (peeks_as T U mid.buckets.now new.buckets.now fault own.peeks);
   }
 
 -- one call and then another
 module _ {D : Type 0} {g : Ghosts D} {S T U : Type 0} {First : Image → S → Type 0} {Second : Image → T → Type 0}
     {Is : Image → U → Type 0} where
-  pub both_find : {old mid new : Buckets D g} {one : S} {other : T} {answer : U} → Finds old mid (Ok one) First
+  pub both_find : {old mid new : Reading D g} {one : S} {other : T} {answer : U} → Finds old mid (Ok one) First
       → Finds mid new (Ok other) Second
-      → ((rest : Image) → Has rest rest old → First rest one → Second rest other → Is rest answer) → Finds old new (Ok answer) Is
-  both_find {old} {mid} {new} {one} {other} {answer} first second step =
-      then_finds (still_whole old mid one first.looks) first.looks.same first.looks.stays first.has second
-      (λ rest had own. step rest had (first.so rest had) own)
+      → ((rest : Image) → Has rest rest old.buckets.now → First rest one → Second rest other → Is rest answer) → Finds old new (Ok answer) Is
+  both_find first second step = then_finds (saw_it first) second (λ rest had own. step rest had (first.so rest had) own)
 
-  pub second_refuses : {old mid new : Buckets D g} {one : S} {fault : StoreFault} → Finds old mid (Ok one) First
+  pub second_refuses : {old mid new : Reading D g} {one : S} {fault : StoreFault} → Finds old mid (Ok one) First
       → Finds mid new (Err fault) Second → Finds old new (Err fault) Is
-  second_refuses {old} {mid} {new} {one} {fault} first second =
-      then_refuses (still_whole old mid one first.looks) first.looks.same first.looks.stays first.has second
+  second_refuses first second = then_refuses (saw_it first) second
+
+module _ {D T : Type 0} {g : Ghosts D} {Is : Image → T → Type 0} where
+  -- what a reading finds is found of its transaction, as the reading leaves it
+  pub finds_there : {old new : Reading D g} {left : Buckets D g} {result : Result T StoreFault} → new.buckets.now ≡ left
+      → Finds old new result Is → FindsThere old.buckets.now left result Is
+  finds_there {old} {new} {left} {result} is found =
+      subst (λ (own : Buckets D g). FindsThere old.buckets.now own result Is) is
+      (record { so = found.so; has = found.has; sound = found.sound; peeks = found.peeks })

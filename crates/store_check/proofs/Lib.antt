@@ -2,6 +2,7 @@ pub mod AllLaws
 pub mod BucketSteps
 pub mod Exist
 pub mod Finding
+pub mod FindsJoined
 pub mod FindsLaws
 pub mod FoundLaws
 pub mod HeldLaws

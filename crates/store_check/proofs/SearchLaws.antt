@@ -1,15 +1,12 @@
 -- The least key of a map that is not right, as the value of a store.
-use Rattle.std.proofs.Common.{◌≡◌, ◌⊎◌, inl, inr, ◌<◌, ◌≤◌, ℕ, zero, suc, true, false, nat_lt, Option, Some, None, Result, Ok, Err}
+use Rattle.std.proofs.Common.{◌≡◌, ◌⊎◌, inl, inr, ◌<◌, ◌≤◌, ℕ, zero, suc, true, false, nat_lt, Option, Some, None}
 use Rattle.std.proofs.Common.{refl, sym, ap, subst, ◌∙◌, arith, ⊎_elim}
 use Rattle.std.proofs.lemmas.Bool.Decides.{nat_tests}
 use Rattle.std.proofs.lemmas.Option.{same_Some}
-use Rattle.std.specs.Prelude.{IfOk, IfSome}
-use Rattle.page_journal.specs.declared.fault.StoreFault.{StoreFault}
-use Rattle.page_journal.specs.declared.fault.StoreFault.TheVariants.{NotFormatted, NotEmpty, BadStore, DiskFault, StoreFull, Broken}
-use Rattle.page_journal.specs.declared.fault.StoreFault.TheVariants.{OutOfMemory}
+use Rattle.std.specs.Prelude.{IfSome}
 use Rattle.style_read.specs.Style.{StyleOf}
 use Rattle.object_fold.specs.Listings.{HasIds}
-use Rattle.bucket_store.specs.Image.{Image, IsSoundAnswer}
+use Rattle.bucket_store.specs.Image.{Image}
 use Rattle.value_bytes.specs.StoreMap.{number_of}
 use Rattle.value_bytes.specs.declared.store_map.StoreMap.{StoreMap}
 use Rattle.value_bytes.specs.declared.store_map.StoreMap.TheVariants as stored
@@ -19,10 +16,6 @@ use Rattle.store_check.specs.Values.{objects_of}
 use Rattle.store_check.specs.Wrong.{AllRight, IsFirstWrong, IsLeast, IsRightIn, IsWrongIn, wrong_at}
 use Rattle.store_check.proofs.Right.{objects_have_ids}
 use Rattle.store_check.specs.declared.wrong.Wrong.{Wrong}
-
--- what holds of an answer holds of what was answered
-pub answered : {T E : Type 0} (P : T → Type 0) (result : Result T E) (value : T) → result ≡ Ok value → IfOk result P → P value
-answered {T} {E} P result value is own = subst (λ (r : Result T E). IfOk r P) is own
 
 pub some_weaker : {T : Type 0} (P Q : T → Type 0) → ((value : T) → P value → Q value) → (found : Option T) → IfSome found P → IfSome found Q
 some_weaker {T} P Q step None own = tt
@@ -108,17 +101,3 @@ module _ (style : StyleOf) (image : Image) (held : HeldOf) (own : HoldsObjects s
       wrong = is.1;
     };
   })
-
--- a refusal is one whatever was asked for
-sound_as : (T U : Type 0) (fault : StoreFault) → IsSoundAnswer {T = T} (Err fault) → IsSoundAnswer {T = U} (Err fault)
-sound_as T U NotFormatted sound = sound
-sound_as T U NotEmpty sound = sound
-sound_as T U (BadStore page) sound = sound
-sound_as T U DiskFault sound = sound
-sound_as T U (StoreFull n) sound = sound
-sound_as T U Broken sound = sound
-sound_as T U OutOfMemory sound = sound
-
-pub still_sound : (T U : Type 0) (result : Result T StoreFault) (fault : StoreFault) → result ≡ Err fault → IsSoundAnswer result
-    → IsSoundAnswer {T = U} (Err fault)
-still_sound T U result fault is sound = sound_as T U fault (subst (λ (r : Result T StoreFault). IsSoundAnswer r) is sound)

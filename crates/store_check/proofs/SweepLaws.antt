@@ -1,70 +1,17 @@
 -- The buckets of a store, one after another.
-use Rattle.std.proofs.Common.{◌≡◌, ◌⊎◌, inl, inr, ◌<◌, ◌≤◌, ◌+◌, ◌%◌, ℕ, true, false, List, [], Some, None, Ok, refl}
-use Rattle.std.proofs.Common.{sym, ap, subst, ◌∙◌, arith}
+use Rattle.std.proofs.Common.{◌≡◌, ◌⊎◌, inl, inr, ◌<◌, ◌+◌, ◌%◌, ℕ, true, false, List, [], Some, None, refl}
+use Rattle.std.proofs.Common.{sym, subst, ◌∙◌}
 use Rattle.std.specs.Prelude.{◌==◌, if◌then◌else◌, IsSome}
 use Rattle.std.specs.FinMap as finite
 use Rattle.std.specs.List.{AllByRecursion}
-use Rattle.outside.specs.declared.disk.Disk.{Ghosts}
-use Rattle.page_journal.specs.Journal.{is_broken}
-use Rattle.page_journal.specs.declared.journal.Journal.{Journal}
-use Rattle.chain_store.specs.Answers.{Looked}
-use Rattle.chain_store.specs.Chains.{OnlyRead, journal_of, kept_of}
-use Rattle.chain_store.specs.Directories.{root_in}
-use Rattle.chain_store.specs.declared.kept.Kept.{Kept}
-use Rattle.chain_store.specs.declared.root.Root.{Root}
-use Rattle.chain_store.proofs.Looks.{looked_same}
 use Rattle.value_bytes.specs.StoreMap.{number_of}
 use Rattle.value_bytes.specs.declared.store_map.StoreMap.{StoreMap}
 use Rattle.value_bytes.specs.declared.store_map.StoreMap.TheVariants as stored
-use Rattle.bucket_store.specs.Calls.{IsBegun}
-use Rattle.bucket_store.specs.Image.{Image, IsBucketOf, OnlyLooks}
-use Rattle.bucket_store.specs.Transaction.{IsReady, chains_of, has_refused}
-use Rattle.bucket_store.specs.declared.buckets.Buckets.{Buckets}
-use Rattle.bucket_store.proofs.Holding.{looks_then}
-use Rattle.row_store.specs.Loading.{Among, Looks}
+use Rattle.bucket_store.specs.Image.{Image, IsBucketOf}
+use Rattle.row_store.specs.Loading.{Among}
 use Rattle.row_store.proofs.LoadLaws.{all_among, bucket_split}
-use Rattle.row_store.proofs.LookLaws.{read_then}
 use Rattle.store_check.specs.Judged.{IsBefore, IsOfBoth, IsOfBucket, IsOfBuckets}
-use Rattle.store_check.specs.Reading.{IsUnchanged}
 use Rattle.store_check.proofs.Exist.{all_found}
-use Rattle.store_check.proofs.ReadingLaws.{unwritten_later}
-
-module _ {D : Type 0} {g : Ghosts D} where
-  pub ready_then : (old new : Buckets D g) → IsReady old → has_refused new ≡ false → OnlyRead (chains_of old) (chains_of new) → IsReady new
-  ready_then old new before going stays =
-      record { going = going; some = subst (λ (root : Root). 1 ≤ root.buckets) (sym stays.root) before.some }
-
-  -- what only looked at the store has changed nothing
-  pub unchanged_then : (old new : Buckets D g) → IsUnchanged old → has_refused new ≡ false → OnlyRead (chains_of old) (chains_of new)
-      → IsUnchanged new
-  unchanged_then old new before going stays = record {
-    ready = ready_then old new before.ready going stays;
-    unwritten = unwritten_later old new stays before.unwritten;
-  }
-
-  -- nor is anything lost where the transaction begins anew
-  read_anew : (old new : Buckets D g) → IsUnchanged old → IsBegun new → journal_of (chains_of new) ≡ journal_of (chains_of old)
-      → kept_of (chains_of new) ≡ kept_of (chains_of old) → OnlyRead (chains_of old) (chains_of new)
-  read_anew old new before begun journal kept = record {
-    looked = subst (λ (own : Journal D g). Looked (journal_of (chains_of old)) own) (sym journal) (looked_same (journal_of (chains_of old)));
-    kept = kept;
-    root = begun.root ∙ ap (λ (own : Kept). root_in own.front.items) kept ∙ sym before.unwritten.root;
-    written = begun.written ∙ sym before.unwritten.written;
-  }
-
-  pub looks_anew : (old mid new : Buckets D g) (done : Unit {0}) → IsUnchanged old → Looks {T = Unit {0}} old mid (Ok done) → IsBegun new
-      → journal_of (chains_of new) ≡ journal_of (chains_of mid) → kept_of (chains_of new) ≡ kept_of (chains_of mid)
-      → has_refused new ≡ false → OnlyLooks mid new → Looks {T = Unit {0}} old new (Ok done)
-  looks_anew old mid new done before looks begun journal kept going same =
-      let unchanged = unchanged_then old mid before looks.refused looks.stays in
-      record {
-        same = looks_then old mid new looks.same same;
-        stays = read_then old mid new looks.stays (read_anew mid new unchanged begun journal kept);
-        alone = tt;
-        broken = ap is_broken journal ∙ looks.broken;
-        refused = going;
-        cause = record { later = omega (arith, looks.cause.later, same.later); failed = λ is. absurd (cc) };
-      }
 
 -- the records of a bucket are those of its map
 nothing : (bytes : List ℕ) → None ≡ Some bytes → ⊥

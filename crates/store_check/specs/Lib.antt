@@ -1,4 +1,5 @@
 pub mod BadPage
+pub mod Finds
 pub mod Held
 pub mod Judged
 pub mod Judging

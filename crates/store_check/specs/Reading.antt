@@ -1,14 +1,15 @@
 -- A store that is read a bucket at a time.
-use Rattle.std.specs.Prelude.{◌≡◌, Result, IfOk, OnOk}
+use Rattle.std.specs.Prelude.{◌≡◌, ℕ, List}
+use Rattle.std.specs.Coded.{Coded, coded_list, coded_ℕ}
+use Rattle.std.proofs.Props.{props}
+use denote.Struct.Props.{≡_prop}
 use Rattle.std.specs.FinMap as map
 use Rattle.outside.specs.declared.disk.Disk.{Ghosts}
-use Rattle.page_journal.specs.declared.fault.StoreFault.{StoreFault}
 use Rattle.chain_store.specs.Chains.{kept_of, root_of, written_of}
 use Rattle.chain_store.specs.Directories.{root_in}
-use Rattle.bucket_store.specs.Image.{Has, Image, IsSoundAnswer}
+use Rattle.chain_store.specs.contracts.root.Root as root_type
 use Rattle.bucket_store.specs.Transaction.{IsReady, chains_of}
 use Rattle.bucket_store.specs.declared.buckets.Buckets.{Buckets}
-use Rattle.row_store.specs.Loading.{Looks}
 
 -- the transaction has changed nothing: its fields are those of the store. Then it can be begun anew, and nothing is lost.
 pub record IsUnwritten {D : Type 0} {g : Ghosts D} (buckets : Buckets D g) : Type 0 where
@@ -20,10 +21,15 @@ pub record IsUnchanged {D : Type 0} {g : Ghosts D} (buckets : Buckets D g) : Typ
   pub ready : IsReady buckets
   pub unwritten : IsUnwritten buckets
 
--- what a call finds that only reads. In a store that means something its answer is so by what the store means, the transaction has the same
--- then, and it is refused for the disk and memory alone. Whatever it answers, the store was only looked at.
-pub record Finds {D T : Type 0} {g : Ghosts D} (old new : Buckets D g) (result : Result T StoreFault) (Is : Image → T → Type 0) : Type 0 where
-  pub so : IfOk result (λ answer. (rest : Image) → Has rest rest old → Is rest answer)
-  pub has : OnOk result ((rest : Image) → Has rest rest old → Has rest rest new)
-  pub sound : (rest : Image) → Has rest rest old → IsSoundAnswer result
-  pub looks : Looks old new result
+bytes_coded : Coded (List ℕ)
+bytes_coded = coded_list coded_ℕ
+
+IsUnwritten-prop : {D : Type 0} {g : Ghosts D} (buckets : Buckets D g) → IsProp (IsUnwritten buckets)
+IsUnwritten-prop buckets = hlevel (
+  ≡_prop (map.code coded_ℕ bytes_coded) (written_of (chains_of buckets)) map.empty,
+  ≡_prop root_type.the_row.coded (root_of (chains_of buckets)) (root_in (kept_of (chains_of buckets)).front.items),
+)
+
+-- a transaction is so in one way at most
+pub IsUnchanged-prop : {D : Type 0} {g : Ghosts D} (buckets : Buckets D g) → IsProp (IsUnchanged buckets)
+IsUnchanged-prop buckets = hlevel (IsUnwritten-prop buckets, props)

@@ -7,7 +7,8 @@
 //! is held; lists are compared with what the ways and relations list, and rows with those that an import of the objects makes. Of a
 //! node whose tags nobody knows, in a store that was migrated, it is known only that its rows stand in tables of nodes, at its place.
 //!
-//! What a call finds that only reads, what it leaves and how it may refuse are one record, `Finds` (`specs/Reading.antt`).
+//! The values are read by a `Reading`, a transaction that changes nothing and can be read on also behind a refusal: what a call of it finds,
+//! what it leaves and how it may refuse are one record, `Finds` (`specs/Finds.antt`).
 //!
 //! `right_is_sound` and `sound_is_right` tie the values to the maps of a sound store (`specs/Maps.antt`), and `surveyed_means` and
 //! `meaning_is_surveyed` the pages to what a store means. `PageMarks` has a mark for each home page.

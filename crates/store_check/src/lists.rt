@@ -1,16 +1,15 @@
 //! The lists of a store, maps 3 to 5, are compared with what its ways and relations list.
 //!
 //! Each list that is kept is judged by those that are told to list its id, and each id that somebody is told to list has to have one.
-ghost use Rattle.std.specs.Prelude.{◌≡◌, ◌≤◌, ◌%◌, IsSome, is_some};
+ghost use Rattle.std.specs.Prelude.{◌≡◌, ◌≤◌, ◌%◌, IsSome};
 ghost use Rattle.std.specs.FinMap as finite;
 ghost use Rattle.style_read.specs.Style.{StyleOf};
 ghost use Rattle.value_bytes.specs.StoreMap.{number_of};
-ghost use Rattle.bucket_store.specs.Transaction.{IsReady};
 ghost use Rattle.back_index.specs.Filling.{IsKeptAt, mentions_tell};
 ghost use Rattle.store_check.specs.Held.{IsHeldOf};
 ghost use Rattle.store_check.specs.Least.{lesser_of};
 ghost use Rattle.store_check.specs.Lists.{IsLacking};
-ghost use Rattle.store_check.specs.Reading.{Finds};
+ghost use Rattle.store_check.specs.Finds.{Finds};
 ghost use Rattle.store_check.specs.Values.{NodeMap, ObjectMap, ReadsObjects};
 ghost use Rattle.store_check.specs.Wrong.{IsLeast, IsLeastOf, IsRightIn};
 
@@ -18,51 +17,49 @@ use crate::held::Held;
 use crate::least::Least;
 use crate::list_judge::wrong_among;
 use crate::mentions::Mentions;
+use crate::reading::Reading;
 use crate::told_lists::told_by_held;
-use bucket_store::{Buckets, refuse_value};
 use outside::Disk;
 use page_journal::StoreFault;
 use std::alloc::Global;
-use value_bytes::{StoreMap, ValueFault};
+use value_bytes::StoreMap;
 
 /// The least id of a map of lists whose list is not that of the ways or relations that are held.
-pub fn first_wrong_list<D: Disk>(
+pub(crate) fn first_wrong_list<D: Disk>(
     alloc: Global,
-    buckets: &mut Buckets<'_, D>,
+    reading: &mut Reading<'_, '_, D>,
     map: StoreMap,
     held: &Held,
 ) -> Result<Option<u64>, StoreFault>
-    requires ready { IsReady buckets.old }
     requires lists { (3 ≤ number_of map) × (number_of map ≤ 5) }
-    ensures least { Finds buckets.old buckets.new result (λ rest found.
+    ensures least { Finds reading.old reading.new result (λ rest found.
         (style : StyleOf) (nodes : NodeMap) (ways relations : ObjectMap) → ReadsObjects rest nodes ways relations
         → IsHeldOf nodes ways relations held.now → IsLeast (IsRightIn style rest nodes ways relations map) found) }
 {
     match told_by_held(alloc, map, held) {
         Ok(mentions) => {
             let all = mentions.as_slice();
-            wrong_list(alloc, buckets, map, &Mentions { all })
+            wrong_list(alloc, reading, map, &Mentions { all })
         }
-        Err(_) => Err(refuse_value(buckets, map, 0, ValueFault::OutOfMemory)),
+        Err(_) => Err(StoreFault::OutOfMemory),
     }
 }
 
 /// The least id of a map of lists whose list is not the one that is told.
 fn wrong_list<D: Disk>(
     alloc: Global,
-    buckets: &mut Buckets<'_, D>,
+    reading: &mut Reading<'_, '_, D>,
     map: StoreMap,
     mentions: &Mentions,
 ) -> Result<Option<u64>, StoreFault>
-    requires ready { IsReady buckets.old }
-    ensures least { Finds buckets.old buckets.new result (λ rest found.
+    ensures least { Finds reading.old reading.new result (λ rest found.
         IsLeast (IsKeptAt (mentions_tell mentions.now.all.now) (rest.maps (number_of map))) found) }
 {
-    let kept = match wrong_kept(alloc, buckets, map, mentions) {
+    let kept = match wrong_kept(alloc, reading, map, mentions) {
         Ok(kept) => kept,
         Err(fault) => return Err(fault),
     };
-    match lacking(buckets, map, mentions) {
+    match lacking(reading, map, mentions) {
         Ok(other) => Ok(lesser_of(kept, other)),
         Err(fault) => Err(fault),
     }
@@ -71,20 +68,19 @@ fn wrong_list<D: Disk>(
 /// The least id of the lists that a map keeps whose list is not the one that is told.
 fn wrong_kept<D: Disk>(
     alloc: Global,
-    buckets: &mut Buckets<'_, D>,
+    reading: &mut Reading<'_, '_, D>,
     map: StoreMap,
     mentions: &Mentions,
 ) -> Result<Option<u64>, StoreFault>
-    requires ready { IsReady buckets.old }
-    ensures least { Finds buckets.old buckets.new result (λ rest found.
+    ensures least { Finds reading.old reading.new result (λ rest found.
         IsLeastOf (λ n. IsSome (finite.get (rest.maps (number_of map)) n))
         (IsKeptAt (mentions_tell mentions.now.all.now) (rest.maps (number_of map))) found) }
 {
-    let count = buckets.root().buckets;
+    let count = reading.bucket_count();
     let mut found = None;
     let mut bucket = 0;
     while bucket < count {
-        match wrong_in_bucket(alloc, buckets, map, bucket, mentions) {
+        match wrong_in_bucket(alloc, reading, map, bucket, mentions) {
             Ok(own) => found = lesser_of(found, own),
             Err(fault) => return Err(fault),
         }
@@ -96,60 +92,42 @@ fn wrong_kept<D: Disk>(
 /// The same of a bucket.
 fn wrong_in_bucket<D: Disk>(
     alloc: Global,
-    buckets: &mut Buckets<'_, D>,
+    reading: &mut Reading<'_, '_, D>,
     map: StoreMap,
     bucket: u64,
     mentions: &Mentions,
 ) -> Result<Option<u64>, StoreFault>
-    requires ready { IsReady buckets.old }
-    ensures least { Finds buckets.old buckets.new result (λ rest found.
+    ensures least { Finds reading.old reading.new result (λ rest found.
         IsLeastOf (λ n. IsSome (finite.get (rest.maps (number_of map)) n) × (n % rest.root.buckets ≡ bucket % rest.root.buckets))
         (IsKeptAt (mentions_tell mentions.now.all.now) (rest.maps (number_of map))) found) }
 {
-    let records = match buckets.records(map, bucket) {
+    let records = match reading.records(map, bucket) {
         Ok(records) => records,
         Err(fault) => return Err(fault),
     };
     match wrong_among(alloc, mentions, records.as_slice()) {
         Ok(found) => Ok(found),
-        Err(_) => Err(refuse_value(buckets, map, bucket, ValueFault::OutOfMemory)),
+        Err(_) => Err(StoreFault::OutOfMemory),
     }
 }
 
 /// The least id that somebody is told to list, and of which a map keeps no list.
 fn lacking<D: Disk>(
-    buckets: &mut Buckets<'_, D>,
+    reading: &mut Reading<'_, '_, D>,
     map: StoreMap,
     mentions: &Mentions,
 ) -> Result<Option<u64>, StoreFault>
-    requires ready { IsReady buckets.old }
-    ensures least { Finds buckets.old buckets.new result (λ rest found.
+    ensures least { Finds reading.old reading.new result (λ rest found.
         IsLeast (λ id. ¬ IsLacking (mentions_tell mentions.now.all.now) (rest.maps (number_of map)) id) found) }
 {
     let mut least = Least::new();
     for mention in mentions.all {
-        match is_kept(buckets, map, mention.id) {
+        match reading.has(map, mention.id) {
             Ok(is_kept) => least.see(mention.id, is_kept),
             Err(fault) => return Err(fault),
         }
     }
     Ok(least.key())
-}
-
-/// Whether a map keeps a list of an id.
-fn is_kept<D: Disk>(
-    buckets: &mut Buckets<'_, D>,
-    map: StoreMap,
-    id: u64,
-) -> Result<bool, StoreFault>
-    requires ready { IsReady buckets.old }
-    ensures kept { Finds buckets.old buckets.new result (λ rest kept.
-        kept ≡ is_some (finite.get (rest.maps (number_of map)) id)) }
-{
-    if let Err(fault) = buckets.bring(map, id) {
-        return Err(fault);
-    }
-    Ok(buckets.value(map, id).is_some())
 }
 
 /// The lesser of two ids, where both are told, or the one that is.

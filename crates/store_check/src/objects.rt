@@ -1,11 +1,11 @@
 //! The objects of a store are read, and each value of maps 0 to 2 is judged.
 ghost use Rattle.store_check.specs.Objects.{FindsObjects};
-ghost use Rattle.store_check.specs.Reading.{Finds, IsUnchanged};
+ghost use Rattle.store_check.specs.Finds.{Finds};
 
 use crate::Wrong;
 use crate::held::Held;
 use crate::judging_maps::judge_maps;
-use bucket_store::Buckets;
+use crate::reading::Reading;
 use dep_closure::reaches_nodes;
 use outside::Disk;
 use page_journal::StoreFault;
@@ -22,17 +22,16 @@ pub enum Found {
 }
 
 /// Reads maps 0 to 2, a bucket at a time.
-pub fn read_objects<D: Disk>(
+pub(crate) fn read_objects<D: Disk>(
     alloc: Global,
-    buckets: &mut Buckets<'_, D>,
+    reading: &mut Reading<'_, '_, D>,
     style: &Style,
 ) -> Result<Found, StoreFault>
-    requires unchanged { IsUnchanged buckets.old }
-    ensures found { Finds buckets.old buckets.new result (λ rest found.
+    ensures found { Finds reading.old reading.new result (λ rest found.
         FindsObjects style.now rest found) }
 {
-    let mut held = Held::new(alloc, buckets.root().buckets);
-    match judge_maps(alloc, buckets, reaches_nodes(style), &mut held) {
+    let mut held = Held::new(alloc, reading.bucket_count());
+    match judge_maps(alloc, reading, reaches_nodes(style), &mut held) {
         Ok(None) => Ok(Found::Objects(held)),
         Ok(Some(wrong)) => Ok(Found::Wrong(wrong)),
         Err(fault) => Err(fault),

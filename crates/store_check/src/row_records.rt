@@ -6,19 +6,18 @@ ghost use Rattle.style_read.specs.Style.{StyleOf};
 ghost use Rattle.value_bytes.specs.StoreMap.{number_of};
 ghost use Rattle.value_bytes.specs.declared.store_map.StoreMap.TheVariants as stored;
 ghost use Rattle.bucket_store.specs.Image.{Has, Image};
-ghost use Rattle.bucket_store.specs.Transaction.{IsReady};
 ghost use Rattle.store_maps.specs.Asked.{object_map, row_key, row_map};
 ghost use Rattle.store_check.specs.Held.{HeldOf};
 ghost use Rattle.store_check.specs.Judged.{IsAmong, IsAsked, IsFound, IsOne, SeesRows, is_node_rows, kind_kept, Tells, other_at, row_number, rows_map};
-ghost use Rattle.store_check.specs.Reading.{Finds};
+ghost use Rattle.store_check.specs.Finds.{Finds};
 ghost use Rattle.store_check.specs.Values.{NodeMap, ObjectMap, objects_of};
 ghost use Rattle.store_check.specs.Wrong.{IsRightIn};
 
 use crate::held::Held;
 use crate::least::Least;
+use crate::reading::Reading;
 use crate::row_judge::{is_right_node, is_right_other};
 use crate::row_source::RowSource;
-use bucket_store::Buckets;
 use osm_base::{Bytes, Key, Kind, MAX_ID, OutOfMemory};
 use outside::Disk;
 use page_journal::StoreFault;
@@ -29,15 +28,14 @@ use value_bytes::StoreMap;
 /// Judges the rows of these records of a map of objects, or these of a map of rows that have no object.
 pub(crate) fn judge_records<D: Disk>(
     alloc: Global,
-    buckets: &mut Buckets<'_, D>,
+    reading: &mut Reading<'_, '_, D>,
     style: &Style,
     held: &Held,
     source: RowSource,
     records: &[(u64, Bytes)],
     wrong: &mut Least,
 ) -> Result<(), StoreFault>
-    requires ready { IsReady buckets.old }
-    ensures sees { Finds buckets.old buckets.new result (λ rest done.
+    ensures sees { Finds reading.old reading.new result (λ rest done.
         (nodes : NodeMap) (ways relations : ObjectMap)
         → Tells held.now rest nodes ways relations
         → AllByRecursion (λ one. finite.get (rest.maps (number_of source.map)) one.0 ≡ Some one.1) records.now
@@ -46,7 +44,7 @@ pub(crate) fn judge_records<D: Disk>(
     for (number, bytes) in records {
         if let Err(fault) = judge_record(
             alloc,
-            buckets,
+            reading,
             style,
             held,
             source,
@@ -63,7 +61,7 @@ pub(crate) fn judge_records<D: Disk>(
 /// Judges the rows of a record of a map of objects, or those of a record of a map of rows that has no object.
 fn judge_record<D: Disk>(
     alloc: Global,
-    buckets: &mut Buckets<'_, D>,
+    reading: &mut Reading<'_, '_, D>,
     style: &Style,
     held: &Held,
     source: RowSource,
@@ -71,13 +69,12 @@ fn judge_record<D: Disk>(
     bytes: &[u8],
     wrong: &mut Least,
 ) -> Result<(), StoreFault>
-    requires ready { IsReady buckets.old }
-    ensures sees { Finds buckets.old buckets.new result (λ rest done.
+    ensures sees { Finds reading.old reading.new result (λ rest done.
         (nodes : NodeMap) (ways relations : ObjectMap)
         → Tells held.now rest nodes ways relations → finite.get (rest.maps (number_of source.map)) number ≡ Some bytes.now
         → SeesRows style.now rest nodes ways relations (rows_map source.map) (IsOne source.map number) wrong.old wrong.new) }
 {
-    match wrong_key(alloc, buckets, style, held, source, number, bytes) {
+    match wrong_key(alloc, reading, style, held, source, number, bytes) {
         Ok(Some(key)) => {
             wrong.see(key, false);
             Ok(())
@@ -90,26 +87,25 @@ fn judge_record<D: Disk>(
 /// The key of the rows of a record, if they are wrong.
 fn wrong_key<D: Disk>(
     alloc: Global,
-    buckets: &mut Buckets<'_, D>,
+    reading: &mut Reading<'_, '_, D>,
     style: &Style,
     held: &Held,
     source: RowSource,
     number: u64,
     bytes: &[u8],
 ) -> Result<Option<u64>, StoreFault>
-    requires ready { IsReady buckets.old }
-    ensures found { Finds buckets.old buckets.new result (λ rest found.
+    ensures found { Finds reading.old reading.new result (λ rest found.
         (nodes : NodeMap) (ways relations : ObjectMap)
         → Tells held.now rest nodes ways relations → finite.get (rest.maps (number_of source.map)) number ≡ Some bytes.now
         → IsFound (IsRightIn style.now rest nodes ways relations (rows_map source.map)) (IsAsked (objects_of nodes ways relations) source.map number)
         (row_number source.map number) found) }
 {
     match kind_of(source.map) {
-        Some(kind) => match wrong_of_object(alloc, buckets, style, held, kind, number, bytes) {
+        Some(kind) => match wrong_of_object(alloc, reading, style, held, kind, number, bytes) {
             Ok(found) => Ok(found),
             Err(fault) => Err(fault),
         },
-        None => match wrong_of_rows(buckets, held, source.map, number) {
+        None => match wrong_of_rows(reading, held, source.map, number) {
             Ok(found) => Ok(found),
             Err(fault) => Err(fault),
         },
@@ -119,15 +115,14 @@ fn wrong_key<D: Disk>(
 /// The key of the rows of an object, if they are wrong, where these bytes are what is kept of it.
 fn wrong_of_object<D: Disk>(
     alloc: Global,
-    buckets: &mut Buckets<'_, D>,
+    reading: &mut Reading<'_, '_, D>,
     style: &Style,
     held: &Held,
     kind: Kind,
     id: u64,
     bytes: &[u8],
 ) -> Result<Option<u64>, StoreFault>
-    requires ready { IsReady buckets.old }
-    ensures found { Finds buckets.old buckets.new result (λ rest found.
+    ensures found { Finds reading.old reading.new result (λ rest found.
         (nodes : NodeMap) (ways relations : ObjectMap)
         → Tells held.now rest nodes ways relations → finite.get (rest.maps (number_of (object_map kind))) id ≡ Some bytes.now
         → IsFound (IsRightIn style.now rest nodes ways relations (row_map kind)) (Unit {0}) (row_key kind id) found) }
@@ -138,7 +133,7 @@ fn wrong_of_object<D: Disk>(
     if id > MAX_ID {
         return Ok(None);
     }
-    match wrong_of_key(alloc, buckets, style, held, Key::new(kind, id), bytes) {
+    match wrong_of_key(alloc, reading, style, held, Key::new(kind, id), bytes) {
         Ok(found) => Ok(found),
         Err(fault) => Err(fault),
     }
@@ -147,30 +142,26 @@ fn wrong_of_object<D: Disk>(
 /// The key of the rows of a key, if they are wrong, where these bytes are what is kept of its object.
 fn wrong_of_key<D: Disk>(
     alloc: Global,
-    buckets: &mut Buckets<'_, D>,
+    reading: &mut Reading<'_, '_, D>,
     style: &Style,
     held: &Held,
     key: Key,
     bytes: &[u8],
 ) -> Result<Option<u64>, StoreFault>
-    requires ready { IsReady buckets.old }
-    ensures found { Finds buckets.old buckets.new result (λ rest found.
+    ensures found { Finds reading.old reading.new result (λ rest found.
         (nodes : NodeMap) (ways relations : ObjectMap)
         → Tells held.now rest nodes ways relations → finite.get (rest.maps (number_of (object_map key.kind))) key.id ≡ Some bytes.now
         → IsFound (IsRightIn style.now rest nodes ways relations (row_map key.kind)) (Unit {0}) (row_key key.kind key.id) found) }
 {
     let number = row_key(key);
-    let kept = match buckets.get(row_map(key.kind), number) {
+    let kept = match reading.get(row_map(key.kind), number) {
         Ok(kept) => kept,
         Err(fault) => return Err(fault),
     };
     match is_right(alloc, style, held, key, bytes, &kept) {
         Ok(true) => Ok(None),
         Ok(false) => Ok(Some(number)),
-        Err(_) => {
-            buckets.refuse();
-            Err(StoreFault::OutOfMemory)
-        }
+        Err(_) => Err(StoreFault::OutOfMemory),
     }
 }
 
@@ -197,18 +188,17 @@ fn is_right(
 
 /// A key of rows, which are kept, if it has no object.
 fn wrong_of_rows<D: Disk>(
-    buckets: &mut Buckets<'_, D>,
+    reading: &mut Reading<'_, '_, D>,
     held: &Held,
     map: StoreMap,
     number: u64,
 ) -> Result<Option<u64>, StoreFault>
-    requires ready { IsReady buckets.old }
-    ensures nodes { is_node_rows map ≡ true → IfOk result (λ found. (rest : Image) → Has rest rest buckets.old → (style : StyleOf)
+    ensures nodes { is_node_rows map ≡ true → IfOk result (λ found. (rest : Image) → Has rest rest reading.old.buckets.now → (style : StyleOf)
         (nodes : NodeMap) (ways relations : ObjectMap) → Tells held.now rest nodes ways relations → (bytes : List ℕ)
         → finite.get (rest.maps (number_of stored.NodeRows)) number ≡ Some bytes
         → IsFound (IsRightIn style rest nodes ways relations stored.NodeRows) (IsAsked (objects_of nodes ways relations) stored.NodeRows number)
         number found) }
-    ensures others { Finds buckets.old buckets.new result (λ rest found.
+    ensures others { Finds reading.old reading.new result (λ rest found.
         is_node_rows map ≡ false → (style : StyleOf)
         (nodes : NodeMap) (ways relations : ObjectMap) → Tells held.now rest nodes ways relations → (bytes : List ℕ)
         → finite.get (rest.maps (number_of stored.OtherRows)) number ≡ Some bytes
@@ -218,7 +208,7 @@ fn wrong_of_rows<D: Disk>(
     if !is_node_rows(map) {
         return Ok(wrong_of_none(held, number));
     }
-    match wrong_of_no_node(buckets, number) {
+    match wrong_of_no_node(reading, number) {
         Ok(found) => Ok(found),
         Err(fault) => Err(fault),
     }
@@ -226,17 +216,16 @@ fn wrong_of_rows<D: Disk>(
 
 /// The key of rows of a node, which are kept, if there is no such node.
 fn wrong_of_no_node<D: Disk>(
-    buckets: &mut Buckets<'_, D>,
+    reading: &mut Reading<'_, '_, D>,
     id: u64,
 ) -> Result<Option<u64>, StoreFault>
-    requires ready { IsReady buckets.old }
-    ensures found { Finds buckets.old buckets.new result (λ rest found.
+    ensures found { Finds reading.old reading.new result (λ rest found.
         (style : StyleOf) (own : HeldOf) (nodes : NodeMap)
         (ways relations : ObjectMap) → Tells own rest nodes ways relations → (bytes : List ℕ)
         → finite.get (rest.maps (number_of stored.NodeRows)) id ≡ Some bytes
         → IsFound (IsRightIn style rest nodes ways relations stored.NodeRows) (IsAsked (objects_of nodes ways relations) stored.NodeRows id) id found) }
 {
-    match buckets.get(StoreMap::Nodes, id) {
+    match reading.get(StoreMap::Nodes, id) {
         Ok(Some(_)) => Ok(None),
         Ok(None) => Ok(Some(id)),
         Err(fault) => Err(fault),

@@ -3,18 +3,17 @@ ghost use Rattle.std.specs.Prelude.{◌≤◌};
 ghost use Rattle.object_fold.specs.Listings.{HasIds};
 ghost use Rattle.value_bytes.specs.StoreMap.{number_of};
 ghost use Rattle.value_bytes.specs.declared.store_map.StoreMap.TheVariants as stored;
-ghost use Rattle.bucket_store.specs.Transaction.{IsReady};
 ghost use Rattle.store_check.specs.Held.{IsHeldOf};
 ghost use Rattle.store_check.specs.Judged.{IsOfBoth, IsOfBucket, IsOfBuckets, SeesHeld, rows_map};
-ghost use Rattle.store_check.specs.Reading.{Finds, IsUnchanged};
+ghost use Rattle.store_check.specs.Finds.{Finds};
 ghost use Rattle.store_check.specs.Values.{NodeMap, ObjectMap, ReadsObjects, objects_of};
 ghost use Rattle.store_check.specs.Wrong.{IsLeast, IsRightIn};
 
 use crate::held::Held;
 use crate::least::Least;
+use crate::reading::Reading;
 use crate::row_records::judge_records;
 use crate::row_source::RowSource;
-use bucket_store::Buckets;
 use outside::Disk;
 use page_journal::StoreFault;
 use std::alloc::Global;
@@ -23,24 +22,23 @@ use value_bytes::StoreMap;
 
 /// The least key of a map of rows whose rows are not those that an import of the objects makes. A bucket of objects and its buckets of
 /// rows are in memory at a time.
-pub fn first_wrong_rows<D: Disk>(
+pub(crate) fn first_wrong_rows<D: Disk>(
     alloc: Global,
-    buckets: &mut Buckets<'_, D>,
+    reading: &mut Reading<'_, '_, D>,
     style: &Style,
     map: StoreMap,
     held: &Held,
 ) -> Result<Option<u64>, StoreFault>
-    requires unchanged { IsUnchanged buckets.old }
     requires rows { 6 ≤ number_of map }
-    ensures least { Finds buckets.old buckets.new result (λ rest found.
+    ensures least { Finds reading.old reading.new result (λ rest found.
         (nodes : NodeMap) (ways relations : ObjectMap) → ReadsObjects rest nodes ways relations → HasIds (objects_of nodes ways relations)
         → IsHeldOf nodes ways relations held.now → IsLeast (IsRightIn style.now rest nodes ways relations map) found) }
 {
-    let count = buckets.root().buckets;
+    let count = reading.bucket_count();
     let mut wrong = Least::new();
     let mut bucket = 0;
     while bucket < count {
-        if let Err(fault) = judge_buckets(alloc, buckets, style, held, map, bucket, &mut wrong) {
+        if let Err(fault) = judge_buckets(alloc, reading, style, held, map, bucket, &mut wrong) {
             return Err(fault);
         }
         bucket += 1;
@@ -51,40 +49,38 @@ pub fn first_wrong_rows<D: Disk>(
 /// Judges the rows of a bucket of each map that goes with a map of rows.
 fn judge_buckets<D: Disk>(
     alloc: Global,
-    buckets: &mut Buckets<'_, D>,
+    reading: &mut Reading<'_, '_, D>,
     style: &Style,
     held: &Held,
     map: StoreMap,
     bucket: u64,
     wrong: &mut Least,
 ) -> Result<(), StoreFault>
-    requires unchanged { IsUnchanged buckets.old }
     requires rows { 6 ≤ number_of map }
-    ensures sees { Finds buckets.old buckets.new result (λ rest done.
+    ensures sees { Finds reading.old reading.new result (λ rest done.
         SeesHeld style.now held.now rest map (IsOfBuckets map rest bucket) wrong.old wrong.new) }
 {
     match map {
-        StoreMap::NodeRows => judge_nodes(alloc, buckets, style, held, bucket, wrong),
-        _ => judge_others(alloc, buckets, style, held, bucket, wrong),
+        StoreMap::NodeRows => judge_nodes(alloc, reading, style, held, bucket, wrong),
+        _ => judge_others(alloc, reading, style, held, bucket, wrong),
     }
 }
 
 /// Judges the rows of a bucket of nodes.
 fn judge_nodes<D: Disk>(
     alloc: Global,
-    buckets: &mut Buckets<'_, D>,
+    reading: &mut Reading<'_, '_, D>,
     style: &Style,
     held: &Held,
     bucket: u64,
     wrong: &mut Least,
 ) -> Result<(), StoreFault>
-    requires unchanged { IsUnchanged buckets.old }
-    ensures sees { Finds buckets.old buckets.new result (λ rest done.
+    ensures sees { Finds reading.old reading.new result (λ rest done.
         SeesHeld style.now held.now rest stored.NodeRows (IsOfBuckets stored.NodeRows rest bucket) wrong.old wrong.new) }
 {
     if let Err(fault) = judge_bucket(
         alloc,
-        buckets,
+        reading,
         style,
         held,
         RowSource {
@@ -97,7 +93,7 @@ fn judge_nodes<D: Disk>(
     }
     match judge_apart(
         alloc,
-        buckets,
+        reading,
         style,
         held,
         RowSource {
@@ -114,22 +110,21 @@ fn judge_nodes<D: Disk>(
 /// Judges the rows of a bucket of ways and one of relations, and those of a bucket of rows that have no object.
 fn judge_others<D: Disk>(
     alloc: Global,
-    buckets: &mut Buckets<'_, D>,
+    reading: &mut Reading<'_, '_, D>,
     style: &Style,
     held: &Held,
     bucket: u64,
     wrong: &mut Least,
 ) -> Result<(), StoreFault>
-    requires unchanged { IsUnchanged buckets.old }
-    ensures sees { Finds buckets.old buckets.new result (λ rest done.
+    ensures sees { Finds reading.old reading.new result (λ rest done.
         SeesHeld style.now held.now rest stored.OtherRows (IsOfBuckets stored.OtherRows rest bucket) wrong.old wrong.new) }
 {
-    if let Err(fault) = judge_objects(alloc, buckets, style, held, bucket, wrong) {
+    if let Err(fault) = judge_objects(alloc, reading, style, held, bucket, wrong) {
         return Err(fault);
     }
     match judge_apart(
         alloc,
-        buckets,
+        reading,
         style,
         held,
         RowSource {
@@ -146,19 +141,18 @@ fn judge_others<D: Disk>(
 /// Judges the rows of a bucket of ways and one of relations.
 fn judge_objects<D: Disk>(
     alloc: Global,
-    buckets: &mut Buckets<'_, D>,
+    reading: &mut Reading<'_, '_, D>,
     style: &Style,
     held: &Held,
     bucket: u64,
     wrong: &mut Least,
 ) -> Result<(), StoreFault>
-    requires unchanged { IsUnchanged buckets.old }
-    ensures sees { Finds buckets.old buckets.new result (λ rest done.
+    ensures sees { Finds reading.old reading.new result (λ rest done.
         SeesHeld style.now held.now rest stored.OtherRows (IsOfBoth rest bucket) wrong.old wrong.new) }
 {
     if let Err(fault) = judge_apart(
         alloc,
-        buckets,
+        reading,
         style,
         held,
         RowSource {
@@ -171,7 +165,7 @@ fn judge_objects<D: Disk>(
     }
     match judge_apart(
         alloc,
-        buckets,
+        reading,
         style,
         held,
         RowSource {
@@ -188,20 +182,19 @@ fn judge_objects<D: Disk>(
 /// Judges the rows of a bucket of a map of objects, or those of a bucket of rows that have no object. What was read is forgotten then.
 fn judge_apart<D: Disk>(
     alloc: Global,
-    buckets: &mut Buckets<'_, D>,
+    reading: &mut Reading<'_, '_, D>,
     style: &Style,
     held: &Held,
     source: RowSource,
     bucket: u64,
     wrong: &mut Least,
 ) -> Result<(), StoreFault>
-    requires unchanged { IsUnchanged buckets.old }
-    ensures sees { Finds buckets.old buckets.new result (λ rest done.
+    ensures sees { Finds reading.old reading.new result (λ rest done.
         SeesHeld style.now held.now rest (rows_map source.map) (IsOfBucket source.map rest bucket) wrong.old wrong.new) }
 {
-    match judge_bucket(alloc, buckets, style, held, source, bucket, wrong) {
+    match judge_bucket(alloc, reading, style, held, source, bucket, wrong) {
         Ok(()) => {
-            buckets.begin();
+            reading.forget();
             Ok(())
         }
         Err(fault) => Err(fault),
@@ -211,24 +204,23 @@ fn judge_apart<D: Disk>(
 /// Judges the rows of a bucket of a map of objects, or those of a bucket of rows that have no object.
 fn judge_bucket<D: Disk>(
     alloc: Global,
-    buckets: &mut Buckets<'_, D>,
+    reading: &mut Reading<'_, '_, D>,
     style: &Style,
     held: &Held,
     source: RowSource,
     bucket: u64,
     wrong: &mut Least,
 ) -> Result<(), StoreFault>
-    requires ready { IsReady buckets.old }
-    ensures sees { Finds buckets.old buckets.new result (λ rest done.
+    ensures sees { Finds reading.old reading.new result (λ rest done.
         SeesHeld style.now held.now rest (rows_map source.map) (IsOfBucket source.map rest bucket) wrong.old wrong.new) }
 {
-    let records = match buckets.records(source.map, bucket) {
+    let records = match reading.records(source.map, bucket) {
         Ok(records) => records,
         Err(fault) => return Err(fault),
     };
     match judge_records(
         alloc,
-        buckets,
+        reading,
         style,
         held,
         source,

@@ -1,45 +1,36 @@
 -- One more id that is named has a list or not.
 use Rattle.std.proofs.Common.{◌≡◌, ◌⊎◌, ◌+◌, ◌∙◌, ℕ, List, Option, true, take, get_or, sym, subst}
 use Rattle.std.proofs.lemmas.List.{get_or_default, take_all}
-use Rattle.bucket_store.proofs.Holding.{looks_then}
 use Rattle.value_bytes.specs.StoreMap.{number_of}
-use Rattle.row_store.proofs.LookLaws.{read_then, still_whole}
 use Rattle.back_index.specs.Filling.{mentions_tell}
 use Rattle.back_index.specs.declared.mentions.Mention.{Mention}
 use Rattle.store_check.specs.Lists.{IsLacking}
 use Rattle.store_check.specs.Wrong.{IsLeast, IsLeastOf}
 use Rattle.store_check.proofs.LeastLaws.{least_fewer, least_more}
 use Rattle.store_check.proofs.ListsLaws.{all_named, is_named, lacks_it, named_more, not_lacking, told_here}
-use Rattle.store_check.proofs.FindsLaws.{found_all, then_refuses}
+use Rattle.store_check.proofs.FindsLaws.{found_all, saw_then, then_refuses}
 use Rattle.store_check.proofs.lists.lacking.Goals as goal
 
 pub returns-in-Err : goal.returns-in-Err
 returns-in-Err g c =
     let read = c.loop-mention.invariant in
-    record { least = then_refuses read.still read.same read.stays read.has c.in-Err.ensures.kept }
+    record { least = then_refuses read.saw c.in-Err.ensures.found }
 
 pub loop-mention-preserved : goal.loop-mention-preserved
 loop-mention-preserved g c =
     let before = c.loop-mention.invariant in
-    let done = c.in-Ok.ensures.kept in
-    let old = c.args.buckets.now in
-    let mid = c.loop-mention.buckets in
-    let new = c.is_kept.new.buckets in
+    let done = c.in-Ok.ensures.found in
     let mentions : List Mention = c.args.mentions.now.all.now in
     let at : ℕ = c.loop-mention.mention-index in
     let none : Mention = record { id = 0; own = 0 } in
     let own : Mention = get_or mentions at none in
     let is : own ≡ get_or mentions at own = get_or_default mentions at none own c.loop-mention-test.true in
     record {
-      going = done.looks.refused;
-      still = still_whole mid new c.in-Ok.is_kept done.looks ∙ before.still;
-      same = looks_then old mid new before.same done.looks.same;
-      stays = read_then old mid new before.stays done.looks.stays;
-      has = λ rest had. done.has rest (before.has rest had);
+      saw = saw_then before.saw done;
       least = λ rest had.
           let kept = rest.maps (number_of c.args.map) in
           let Is = λ (id : ℕ). ¬ IsLacking (mentions_tell mentions) kept id in
-          let found = done.so rest (before.has rest had) in
+          let found = done.so rest (before.saw.has rest had) in
           let more = least_more Is (λ id. is_named (take at mentions) id ≡ true) c.loop-mention.least own.id c.in-Ok.is_kept
           (before.least rest had)
           (λ yes. not_lacking (mentions_tell mentions) kept own.id (sym found ∙ yes))
@@ -55,7 +46,7 @@ pub returns : goal.returns
 returns g c =
     let read = c.loop-mention.invariant in
     record {
-      least = found_all c.args.buckets.now c.loop-mention.buckets _ read.going read.still read.same read.stays read.has (λ rest has.
+      least = found_all read.saw (λ rest has.
           let mentions : List Mention = c.args.mentions.now.all.now in
           let kept = rest.maps (number_of c.args.map) in
           let Is = λ (id : ℕ). ¬ IsLacking (mentions_tell mentions) kept id in

@@ -5,38 +5,29 @@ use Rattle.std.specs.FinMap as finite
 use Rattle.chain_store.specs.declared.root.Root.{Root}
 use Rattle.bucket_store.specs.Buckets.{bucket_count}
 use Rattle.bucket_store.specs.Transaction.{chains_of}
-use Rattle.bucket_store.proofs.Holding.{looks_then}
 use Rattle.value_bytes.specs.StoreMap.{number_of}
 use Rattle.row_store.proofs.LoadLaws.{bucket_split}
-use Rattle.row_store.proofs.LookLaws.{read_then, still_whole}
 use Rattle.back_index.specs.Filling.{IsKeptAt, mentions_tell}
 use Rattle.store_check.specs.Wrong.{IsLeastOf}
 use Rattle.store_check.proofs.LeastLaws.{least_fewer}
 use Rattle.store_check.proofs.LeastOfTwo.{least_both}
-use Rattle.store_check.proofs.FindsLaws.{found_all, then_refuses}
+use Rattle.store_check.proofs.FindsLaws.{found_all, saw_then, then_refuses}
 use Rattle.store_check.proofs.lists.wrong_kept.Goals as goal
 
 pub returns-in-Err : goal.returns-in-Err
 returns-in-Err g c =
     let read = c.loop-bucket.invariant in
-    record { least = then_refuses read.still read.same read.stays read.has c.in-Err.ensures.least }
+    record { least = then_refuses read.saw c.in-Err.ensures.least }
 
 pub loop-bucket-preserved : goal.loop-bucket-preserved
 loop-bucket-preserved g c =
     let before = c.loop-bucket.invariant in
     let done = c.in-Ok.ensures.least in
-    let old = c.args.buckets.now in
-    let mid = c.loop-bucket.buckets in
-    let new = c.wrong_in_bucket.new.buckets in
     let bucket : ℕ = c.loop-bucket.bucket in
     record {
-      going = done.looks.refused;
-      still = still_whole mid new c.in-Ok.own done.looks ∙ before.still;
-      same = looks_then old mid new before.same done.looks.same;
-      stays = read_then old mid new before.stays done.looks.stays;
-      has = λ rest had. done.has rest (before.has rest had);
+      saw = saw_then before.saw done;
       least = λ rest had.
-          let count : c.root-count.result.buckets ≡ rest.root.buckets = ap (λ (r : Root). r.buckets) (c.root-count.ensures ∙ had.root) in
+          let count : c.bucket_count-count.result ≡ rest.root.buckets = c.bucket_count-count.ensures ∙ ap (λ (r : Root). r.buckets) had.root in
           let kept = rest.maps (number_of c.args.map) in
           let Is = IsKeptAt (mentions_tell c.args.mentions.now.all.now) kept in
           subst (λ (l : Option ℕ). IsLeastOf (λ n. IsSome (finite.get kept n) × (n % rest.root.buckets < bucket + 1)) Is l)
@@ -47,21 +38,21 @@ loop-bucket-preserved g c =
           (λ n part. elim (bucket_split n bucket rest.root.buckets (omega (arith, c.loop-bucket-test.true, count)) part.1) [
             | inl less ↦ inl (part.0, less)
             | inr same ↦ inr (part.0, same)
-          ]) c.loop-bucket.found c.in-Ok.own (before.least rest had) (done.so rest (before.has rest had)));
+          ]) c.loop-bucket.found c.in-Ok.own (before.least rest had) (done.so rest (before.saw.has rest had)));
     }
 
 pub returns : goal.returns
 returns g c =
     let read = c.loop-bucket.invariant in
     record {
-      least = found_all c.args.buckets.now c.loop-bucket.buckets _ read.going read.still read.same read.stays read.has (λ rest has.
-          let count : c.root-count.result.buckets ≡ rest.root.buckets = ap (λ (r : Root). r.buckets) (c.root-count.ensures ∙ has.root) in
-          let own : bucket_count (chains_of c.args.buckets.now) ≡ rest.root.buckets = ap (λ (r : Root). r.buckets) has.root in
+      least = found_all read.saw (λ rest has.
+          let count : c.bucket_count-count.result ≡ rest.root.buckets = c.bucket_count-count.ensures ∙ ap (λ (r : Root). r.buckets) has.root in
+          let own : bucket_count (chains_of c.args.reading.now.buckets.now) ≡ rest.root.buckets = ap (λ (r : Root). r.buckets) has.root in
           let kept = rest.maps (number_of c.args.map) in
           least_fewer (IsKeptAt (mentions_tell c.args.mentions.now.all.now) kept) (λ n. IsSome (finite.get kept n))
           (λ n. IsSome (finite.get kept n) × (n % rest.root.buckets < c.loop-bucket.bucket)) c.loop-bucket.found
           (λ n some.
-          let low : n % rest.root.buckets < rest.root.buckets = mod-lt n (omega (arith, c.requires.ready.some, own)) in
+          let low : n % rest.root.buckets < rest.root.buckets = mod-lt n (omega (arith, c.args.reading.now.unchanged.ready.some, own)) in
           (some, omega (arith, low, c.loop-bucket-test.false, count)))
           (c.loop-bucket.invariant.least rest has));
     }

@@ -1,36 +1,26 @@
 -- A record more was judged.
-use Rattle.std.proofs.Common.{◌≡◌, ◌+◌, ◌∙◌, inl, inr, ℕ, List, Some, take, sym, subst, arith}
+use Rattle.std.proofs.Common.{◌≡◌, ◌+◌, inl, inr, ℕ, List, Some, take, sym, subst, arith}
 use Rattle.std.specs.FinMap as finite
 use Rattle.value_bytes.specs.StoreMap.{number_of}
-use Rattle.bucket_store.proofs.Holding.{looks_then}
 use Rattle.row_store.proofs.LoadLaws.{among_all, among_more}
-use Rattle.row_store.proofs.LookLaws.{read_then, still_whole}
 use Rattle.store_check.specs.Judged.{IsAmong, IsAsked, IsOne, rows_map}
 use Rattle.store_check.specs.Values.{objects_of}
 use Rattle.store_check.specs.Wrong.{IsRightIn}
 use Rattle.store_check.proofs.AllLaws.{all_at}
 use Rattle.store_check.proofs.Sight.{sees_fewer, sees_then}
-use Rattle.store_check.proofs.SweepLaws.{ready_then}
-use Rattle.store_check.proofs.FindsLaws.{found_all, then_refuses}
+use Rattle.store_check.proofs.FindsLaws.{found_all, saw_then, then_refuses}
 use Rattle.store_check.proofs.row_records.judge_records.Goals as goal
 
 pub loop-number-preserved : goal.loop-number-preserved
 loop-number-preserved g c =
     let before = c.loop-number.invariant in
     let done = c.in_default.ensures.sees in
-    let old = c.args.buckets.now in
-    let mid = c.loop-number.buckets in
-    let new = c.judge_record.new.buckets in
     let source = c.args.source.map in
     let records = c.args.records.now in
     let place = c.loop-number.number-index in
     let one = c.loop-number-item.result in
     record {
-      ready = ready_then mid new before.ready done.looks.refused done.looks.stays;
-      still = still_whole mid new c.in_default.field-0 done.looks ∙ before.still;
-      same = looks_then old mid new before.same done.looks.same;
-      stays = read_then old mid new before.stays done.looks.stays;
-      has = λ rest had. done.has rest (before.has rest had);
+      saw = saw_then before.saw done;
       sees = λ rest had nodes ways relations tells each.
           let here = all_at (λ (own : ℕ × List ℕ). finite.get (rest.maps (number_of source)) own.0 ≡ Some own.1) records place one each
           c.loop-number-test.true c.loop-number-item.is in
@@ -39,7 +29,7 @@ loop-number-preserved g c =
           sees_then (IsRightIn c.args.style.now rest nodes ways relations (rows_map source)) (IsAsked (objects_of nodes ways relations))
           (IsAmong source (take place records)) (IsOne source one.0) (IsAmong source (take (place + 1) records))
           c.args.wrong.now c.loop-number.wrong c.judge_record.new.wrong (before.sees rest had nodes ways relations tells each)
-          (done.so rest (before.has rest had) nodes ways relations tells told)
+          (done.so rest (before.saw.has rest had) nodes ways relations tells told)
           (λ own number part.
           elim (among_more records place one number c.loop-number-test.true c.loop-number-item.is part.1) [
             | inl among ↦ inl (part.0, among)
@@ -51,7 +41,7 @@ pub returns : goal.returns
 returns g c =
     let looked = c.loop-number.invariant in
     record {
-      sees = found_all c.args.buckets.now c.loop-number.buckets _ looked.ready.going looked.still looked.same looked.stays looked.has
+      sees = found_all looked.saw
           (λ rest had nodes ways relations tells each.
           let source = c.args.source.map in
           let records = c.args.records.now in
@@ -65,4 +55,4 @@ returns g c =
 pub returns-in-Err : goal.returns-in-Err
 returns-in-Err g c =
     let looked = c.loop-number.invariant in
-    record { sees = then_refuses looked.still looked.same looked.stays looked.has c.in-Err.ensures.sees }
+    record { sees = then_refuses looked.saw c.in-Err.ensures.sees }

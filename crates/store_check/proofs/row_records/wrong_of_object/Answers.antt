@@ -1,4 +1,4 @@
-use Rattle.std.proofs.Common.{◌≡◌, None, Some, subst, arith}
+use Rattle.std.proofs.Common.{◌≡◌, Some, subst, arith}
 use Rattle.std.specs.FinMap as finite
 use Rattle.osm_base.specs.values.Key.{KeyOf}
 use Rattle.value_bytes.specs.StoreMap.{number_of}
@@ -11,7 +11,7 @@ use Rattle.store_check.proofs.row_records.wrong_of_object.Goals as goal
 
 pub returns-then-id-lt1 : goal.returns-then-id-lt1
 returns-then-id-lt1 g c = record {
-  found = finds_here c.args.buckets.now None c.requires.ready.going
+  found = finds_here
       (λ rest had nodes ways relations tells there asked.
       let is = kept_has_id c.args.style.now rest nodes ways relations c.args.held.now tells c.args.kind c.args.id c.args.bytes.now there in
       absurd (omega (arith, is.least, c.if-id-lt1.true)));
@@ -19,7 +19,7 @@ returns-then-id-lt1 g c = record {
 
 pub returns-then-id-gt-MAX_ID : goal.returns-then-id-gt-MAX_ID
 returns-then-id-gt-MAX_ID g c = record {
-  found = finds_here c.args.buckets.now None c.requires.ready.going
+  found = finds_here
       (λ rest had nodes ways relations tells there asked.
       let is = kept_has_id c.args.style.now rest nodes ways relations c.args.held.now tells c.args.kind c.args.id c.args.bytes.now there in
       absurd (omega (arith, is.greatest, c.if-id-gt-MAX_ID.true)));

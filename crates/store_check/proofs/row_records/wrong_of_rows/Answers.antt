@@ -2,7 +2,7 @@ use Rattle.store_check.proofs.FindsLaws.{finds_err, finds_here}
 use Rattle.store_check.proofs.row_records.wrong_of_rows.Goals as goal
 
 pub returns-then-not-is_node_rows-clause-others : goal.returns-then-not-is_node_rows-clause-others
-returns-then-not-is_node_rows-clause-others g c = finds_here c.args.buckets.now c.wrong_of_none.result c.requires.ready.going
+returns-then-not-is_node_rows-clause-others g c = finds_here
     (λ rest had is style nodes ways relations tells bytes kept.
     c.wrong_of_none.ensures.found style rest nodes ways relations tells bytes kept)
 

@@ -4,15 +4,9 @@ use Rattle.store_check.specs.Judged.{IsAsked, IsOfBucket, IsOfBuckets}
 use Rattle.store_check.specs.Values.{objects_of}
 use Rattle.store_check.specs.Wrong.{IsRightIn}
 use Rattle.store_check.proofs.Sight.{sees_then}
-use Rattle.store_check.proofs.SweepLaws.{node_split, unchanged_then}
+use Rattle.store_check.proofs.SweepLaws.{node_split}
 use Rattle.store_check.proofs.FindsLaws.{both_find, finds_err, second_refuses}
 use Rattle.store_check.proofs.rows.judge_nodes.Goals as goal
-
-pub judge_apart-requires : goal.judge_apart-requires
-judge_apart-requires g c = record {
-  unchanged = unchanged_then c.args.buckets.now c.judge_bucket.new.buckets c.requires.unchanged c.in_default.ensures.sees.looks.refused
-      c.in_default.ensures.sees.looks.stays;
-}
 
 pub returns-in-Ok : goal.returns-in-Ok
 returns-in-Ok g c = record {

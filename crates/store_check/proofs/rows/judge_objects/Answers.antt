@@ -4,15 +4,8 @@ use Rattle.store_check.specs.Judged.{IsAsked, IsOfBoth, IsOfBucket}
 use Rattle.store_check.specs.Values.{objects_of}
 use Rattle.store_check.specs.Wrong.{IsRightIn}
 use Rattle.store_check.proofs.Sight.{sees_then}
-use Rattle.store_check.proofs.SweepLaws.{unchanged_then}
 use Rattle.store_check.proofs.FindsLaws.{both_find, finds_err, second_refuses}
 use Rattle.store_check.proofs.rows.judge_objects.Goals as goal
-
-pub judge_apart-requires-2 : goal.judge_apart-requires-2
-judge_apart-requires-2 g c = record {
-  unchanged = unchanged_then c.args.buckets.now c.judge_apart.new.buckets c.requires.unchanged c.in_default.ensures.sees.looks.refused
-      c.in_default.ensures.sees.looks.stays;
-}
 
 pub returns-in-Ok : goal.returns-in-Ok
 returns-in-Ok g c = record {

@@ -1,47 +1,20 @@
--- The objects are held, or a value of theirs is the first that is not right.
-use Rattle.std.proofs.Common.{◌≡◌, None, subst}
-use Rattle.std.specs.Prelude.{IfSome}
-use Rattle.std.proofs.lemmas.Result.{IfOk-weaker}
-use Rattle.bucket_store.specs.Image.{Has, Image}
-use Rattle.store_check.specs.Objects.{FindsObjects, HoldsObjects}
-use Rattle.store_check.specs.Wrong.{AllRight, IsFirstWrong}
-use Rattle.store_check.specs.declared.objects.Found.{Found}
-use Rattle.store_check.specs.declared.objects.Found.TheVariants as finds
+-- What is refused is refused by the transaction.
+use Rattle.bucket_store.specs.Image.{Has}
+use Rattle.store_check.proofs.ReadingLaws.{looks_err, looks_ok}
+use Rattle.store_check.proofs.SearchLaws.{some_in_each}
+use Rattle.store_check.specs.Wrong.{IsFirstWrong}
 use Rattle.store_check.specs.declared.wrong.Wrong.{Wrong}
-use Rattle.store_check.proofs.SearchLaws.{some_in_each, some_weaker}
 use Rattle.store_check.proofs.searching.first_wrong.Goals as goal
 
-pub returns-in-Ok-Wrong-clause-wrong : goal.returns-in-Ok-Wrong-clause-wrong
-returns-in-Ok-Wrong-clause-wrong g c rest has =
-    let is : c.in-Ok-Wrong.field-0 ≡ finds.Wrong c.in-Ok-Wrong.wrong = cc (c.in-Ok-Wrong.field-0-is, c.in-Ok-Wrong.wrong-is) in
-    subst (λ (found : Found). FindsObjects c.args.style.now rest found) is (c.in-Ok-Wrong.ensures.found.so rest has)
+pub returns-in-Ok-clause-wrong : goal.returns-in-Ok-clause-wrong
+returns-in-Ok-clause-wrong g c =
+    some_in_each (λ rest. Has rest rest c.args.buckets.now) (λ rest (wrong : Wrong). IsFirstWrong c.args.style.now rest wrong.map wrong.key)
+    c.in-Ok.found c.in-Ok.ensures.wrong.so
 
-pub returns-clause-right : goal.returns-clause-right
-returns-clause-right g c =
-    let is : c.in-Ok-Objects.field-0 ≡ finds.Objects c.in-Ok-Objects.held = cc (c.in-Ok-Objects.field-0-is, c.in-Ok-Objects.held-is) in
-    IfOk-weaker c.wrong_behind.result
-    (λ found. found ≡ None → (rest : Image) → Has rest rest c.read_objects.new.buckets → HoldsObjects c.args.style.now rest c.in-Ok-Objects.held
-    → AllRight c.args.style.now rest)
-    (λ found. found ≡ None → (rest : Image) → Has rest rest c.args.buckets.now → AllRight c.args.style.now rest)
-    (λ found own none rest has. own none rest (c.in-Ok-Objects.ensures.found.has rest has)
-    (subst (λ (found : Found). FindsObjects c.args.style.now rest found) is (c.in-Ok-Objects.ensures.found.so rest has)))
-    c.wrong_behind.ensures.right
+pub returns-in-Ok-clause-looks : goal.returns-in-Ok-clause-looks
+returns-in-Ok-clause-looks g c = looks_ok c.args.buckets.now c.wrong_there.new.buckets c.in-Ok.found c.in-Ok.ensures.wrong.peeks c.in-Ok.ensures.going
 
-pub returns-clause-wrong : goal.returns-clause-wrong
-returns-clause-wrong g c =
-    let is : c.in-Ok-Objects.field-0 ≡ finds.Objects c.in-Ok-Objects.held = cc (c.in-Ok-Objects.field-0-is, c.in-Ok-Objects.held-is) in
-    IfOk-weaker c.wrong_behind.result
-    (λ found. (rest : Image) → Has rest rest c.read_objects.new.buckets
-    → IfSome found (λ own. HoldsObjects c.args.style.now rest c.in-Ok-Objects.held → IsFirstWrong c.args.style.now rest own.map own.key))
-    (λ found. IfSome found (λ own. (rest : Image) → Has rest rest c.args.buckets.now → IsFirstWrong c.args.style.now rest own.map own.key))
-    (λ found own. some_in_each (λ rest. Has rest rest c.args.buckets.now)
-    (λ rest (wrong : Wrong). IsFirstWrong c.args.style.now rest wrong.map wrong.key) found
-    (λ rest has. some_weaker
-    (λ (wrong : Wrong). HoldsObjects c.args.style.now rest c.in-Ok-Objects.held → IsFirstWrong c.args.style.now rest wrong.map wrong.key)
-    (λ (wrong : Wrong). IsFirstWrong c.args.style.now rest wrong.map wrong.key)
-    (λ wrong first. first (subst (λ (found : Found). FindsObjects c.args.style.now rest found) is (c.in-Ok-Objects.ensures.found.so rest has)))
-    found (own rest (c.in-Ok-Objects.ensures.found.has rest has))))
-    c.wrong_behind.ensures.wrong.so
-
-pub returns-clause-sound : goal.returns-clause-sound
-returns-clause-sound g c rest has = c.wrong_behind.ensures.wrong.sound rest (c.in-Ok-Objects.ensures.found.has rest has)
+pub returns-in-Err-clause-looks : goal.returns-in-Err-clause-looks
+returns-in-Err-clause-looks g c =
+    looks_err c.args.buckets.now c.wrong_there.new.buckets c.refuse.new.self c.in-Err.fault c.in-Err.ensures.wrong.peeks
+    c.refuse.ensures.chains c.refuse.ensures.same c.refuse.ensures.refused

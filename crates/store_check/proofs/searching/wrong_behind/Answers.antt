@@ -1,39 +1,30 @@
 -- A map more is right, or has the first value that is not.
-use Rattle.std.proofs.Common.{◌≡◌, Option, None, arith, refl, sym, subst, ◌∙◌, ⊎_elim}
-use Rattle.bucket_store.proofs.Holding.{looks_then}
-use Rattle.row_store.proofs.LookLaws.{read_then, still_whole}
+use Rattle.std.proofs.Common.{◌≡◌, Option, arith, refl, sym, subst, ⊎_elim}
 use Rattle.value_bytes.specs.StoreMap.{number_of}
 use Rattle.value_bytes.specs.declared.store_map.StoreMap.{StoreMap}
 use Rattle.value_bytes.proofs.MapNumbers.{number_of-below}
 use Rattle.store_check.specs.Wrong.{IsRightIn, IsWrongIn}
 use Rattle.store_check.specs.declared.wrong.Wrong.{Wrong}
 use Rattle.store_check.proofs.SearchLaws.{all_right, first_found, held_ids, lower_or_not, same_map}
-use Rattle.store_check.proofs.FindsLaws.{found_all, then_finds, then_refuses}
+use Rattle.store_check.proofs.FindsLaws.{found_all, saw_then, then_finds, then_refuses}
 use Rattle.store_check.proofs.searching.wrong_behind.Goals as goal
 
 pub loop-map-preserved : goal.loop-map-preserved
 loop-map-preserved g c =
     let before = c.loop-map.invariant in
     let done = c.in-Ok-None.ensures.least in
-    let old = c.args.buckets.now in
-    let mid = c.loop-map.buckets in
-    let new = c.wrong_in.new.buckets in
     let here : number_of c.in-Some.map ≡ c.loop-map.number = c.in-Some.ensures.map in
     record {
       some = omega (arith, before.some);
       few = let below = number_of-below c.in-Some.map in omega (arith, here, below);
-      going = done.looks.refused;
-      still = still_whole mid new c.in-Ok-None.field-0 done.looks ∙ before.still;
-      same = looks_then old mid new before.same done.looks.same;
-      stays = read_then old mid new before.stays done.looks.stays;
-      has = λ rest had. done.has rest (before.has rest had);
+      saw = saw_then before.saw done;
       right = λ rest had nodes ways relations read ids held map behind low key.
           ⊎_elim (λ less. before.right rest had nodes ways relations read ids held map behind less key)
           (λ most.
           let level : number_of map ≡ number_of c.in-Some.map = omega (arith, low, most, here) in
           subst (λ (own : StoreMap). IsRightIn c.args.style.now rest nodes ways relations own key) (sym (same_map map c.in-Some.map level))
           (subst (λ (found : Option Wrong). IsWrongIn (IsRightIn c.args.style.now rest nodes ways relations) c.in-Some.map found)
-          c.in-Ok-None.field-0-is (done.so rest (before.has rest had) nodes ways relations read ids held) key))
+          c.in-Ok-None.field-0-is (done.so rest (before.saw.has rest had) nodes ways relations read ids held) key))
           (lower_or_not (number_of map) c.loop-map.number);
     }
 
@@ -46,12 +37,12 @@ returns-clause-right g c is rest had own =
 pub returns-clause-wrong : goal.returns-clause-wrong
 returns-clause-wrong g c =
     let read = c.loop-map.invariant in
-    found_all c.args.buckets.now c.loop-map.buckets None read.going read.still read.same read.stays read.has (λ rest had. tt)
+    found_all read.saw (λ rest had. tt)
 
 pub returns-in-Ok-Some-clause-wrong : goal.returns-in-Ok-Some-clause-wrong
 returns-in-Ok-Some-clause-wrong g c =
     let read = c.loop-map.invariant in
-    then_finds read.still read.same read.stays read.has c.in-Ok-Some.ensures.least (λ rest had least own.
+    then_finds read.saw c.in-Ok-Some.ensures.least (λ rest had least own.
     let ids = held_ids c.args.style.now rest c.args.held.now own in
     let here : number_of c.in-Some.map ≡ c.loop-map.number = c.in-Some.ensures.map in
     first_found c.args.style.now rest c.args.held.now own c.in-Some.map
@@ -65,4 +56,4 @@ returns-in-Ok-Some-clause-wrong g c =
 pub returns-in-Err-clause-wrong : goal.returns-in-Err-clause-wrong
 returns-in-Err-clause-wrong g c =
     let read = c.loop-map.invariant in
-    then_refuses read.still read.same read.stays read.has c.in-Err.ensures.least
+    then_refuses read.saw c.in-Err.ensures.least

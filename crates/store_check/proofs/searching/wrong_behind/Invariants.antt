@@ -1,14 +1,12 @@
-use Rattle.std.proofs.Common.{◌≡◌, ◌-◌, ◌<◌, ◌≤◌, ℕ, false}
-use Rattle.page_journal.specs.Journal.{is_broken}
-use Rattle.chain_store.specs.Chains.{OnlyRead, journal_of}
+use Rattle.std.proofs.Common.{◌-◌, ◌<◌, ◌≤◌, ℕ}
 use Rattle.object_fold.specs.Listings.{HasIds}
-use Rattle.bucket_store.specs.Image.{Has, Image, OnlyLooks}
-use Rattle.bucket_store.specs.Transaction.{chains_of, has_refused}
+use Rattle.bucket_store.specs.Image.{Has, Image}
 use Rattle.value_bytes.specs.StoreMap.{number_of}
 use Rattle.value_bytes.specs.declared.store_map.StoreMap.{StoreMap}
 use Rattle.store_check.specs.Held.{IsHeldOf}
 use Rattle.store_check.specs.Values.{NodeMap, ObjectMap, ReadsObjects, objects_of}
 use Rattle.store_check.specs.Wrong.{IsRightIn}
+use Rattle.store_check.specs.Finds.{Saw}
 use Rattle.store_check.proofs.searching.wrong_behind.Given as goal
 
 -- each value of the maps so far is right, and the store was only read
@@ -16,12 +14,8 @@ abbrev pub invariant-loop-map : goal.invariant-loop-map
 invariant-loop-map g l = record {
   some : 3 ≤ l.number;
   few : l.number ≤ 8;
-  going : has_refused l.buckets ≡ false;
-  still : is_broken (journal_of (chains_of l.buckets)) ≡ is_broken (journal_of (chains_of l.initial.buckets));
-  same : OnlyLooks l.initial.buckets l.buckets;
-  stays : OnlyRead (chains_of l.initial.buckets) (chains_of l.buckets);
-  has : (rest : Image) → Has rest rest l.initial.buckets → Has rest rest l.buckets;
-  right : (rest : Image) → Has rest rest l.initial.buckets → (nodes : NodeMap) (ways relations : ObjectMap)
+  saw : Saw l.initial.reading l.reading;
+  right : (rest : Image) → Has rest rest l.initial.reading.buckets.now → (nodes : NodeMap) (ways relations : ObjectMap)
       → ReadsObjects rest nodes ways relations → HasIds (objects_of nodes ways relations) → IsHeldOf nodes ways relations l.held → (map : StoreMap) → 3 ≤ number_of map
       → number_of map < l.number → (key : ℕ) → IsRightIn l.style rest nodes ways relations map key;
 }
