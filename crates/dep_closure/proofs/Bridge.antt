@@ -19,7 +19,7 @@ use Rattle.object_fold.proofs.Listers.{has-ids_of}
 use Rattle.osm_base.specs.values.Ids.{has}
 use Rattle.dep_closure.specs.Gathered.{IsGathered}
 use Rattle.dep_closure.specs.PendingSet.{HasOldForms, IsPendingOf, is_moved, is_named, is_reselected, moves, ways_in}
-use Rattle.row_map.specs.Condition.{reaches_nodes}
+use Rattle.row_rules.specs.Condition.{reaches_nodes}
 use Rattle.dep_closure.specs.Relations.{makes_relation, is_along}
 use Rattle.dep_closure.specs.Selecting.{reselects, selects_again}
 use Rattle.dep_closure.specs.Ways.{makes_due, is_due}

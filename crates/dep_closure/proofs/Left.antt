@@ -10,12 +10,12 @@ use Rattle.osm_base.specs.declared.values.object.Object.{Object}
 use Rattle.osm_base.specs.declared.values.object.Object.TheVariants.{Node, Way, Relation}
 use Rattle.osm_base.specs.values.Key.{IsId, way_key}
 use Rattle.piece_ends.specs.Pieces.{same_place}
-use Rattle.line_build.specs.Points.{line_through}
+use Rattle.piece_ends.specs.Points.{line_through}
 use Rattle.osm_base.specs.map.Objects.{ObjectSet, folded_all}
 use Rattle.osm_base.specs.map.Listers.{lists, index_of, known_of}
 use Rattle.osm_base.specs.values.Ids.{has}
 use Rattle.dep_closure.specs.PendingSet.{is_moved}
-use Rattle.row_map.specs.Shape.{line_in}
+use Rattle.row_rules.specs.Shape.{line_in}
 use Rattle.dep_closure.specs.Ways.{is_due, Leaves}
 use Rattle.dep_closure.proofs.Anys.{filter_map-same, or-true, tied_self}
 use Rattle.dep_closure.proofs.Bridge.{is_due-is_moved}

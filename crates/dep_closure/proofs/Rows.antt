@@ -24,13 +24,13 @@ use Rattle.style_read.specs.declared.style.TableDef.{TableDef}
 use Rattle.style_read.specs.Style.{StyleOf}
 use Rattle.object_fold.specs.Change.{IsChange}
 use Rattle.object_fold.proofs.Listers.{kind_same}
-use Rattle.row_map.specs.Agree.{Agree, IsSameWay, SameNodes, SameWays}
-use Rattle.row_map.specs.Condition.{is_of_nodes, names_selection, reaches_nodes}
-use Rattle.row_map.specs.Material.{Material, material_of}
-use Rattle.row_map.specs.Objects.{is_of_kind}
-use Rattle.row_map.specs.Row.{cells_of, row, row_from, row_of, wants, with_geometry}
-use Rattle.row_map.specs.Shape.{geometry_of, with_way}
-use Rattle.row_map.proofs.Locality.{row_from-same}
+use Rattle.row_rules.specs.Agree.{Agree, IsSameWay, SameNodes, SameWays}
+use Rattle.row_rules.specs.Condition.{is_of_nodes, names_selection, reaches_nodes}
+use Rattle.row_rules.specs.Material.{Material, material_of}
+use Rattle.row_rules.specs.Objects.{is_of_kind}
+use Rattle.row_rules.specs.Row.{cells_of, row, row_from, row_of, wants, with_geometry}
+use Rattle.row_rules.specs.Shape.{geometry_of, with_way}
+use Rattle.row_rules.proofs.Locality.{row_from-same}
 use Rattle.dep_closure.specs.PendingSet.{HasOldForms, IsPendingOf, LeavesRows, is_among, is_moved, is_named, is_pending, is_reselected}
 use Rattle.dep_closure.specs.PendingSet.{ways_in}
 use Rattle.dep_closure.specs.Selecting.{HandsSame}

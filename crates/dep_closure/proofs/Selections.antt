@@ -26,8 +26,8 @@ use Rattle.object_fold.specs.Change.{IsChange}
 use Rattle.object_fold.proofs.IndexOf.{ids_of-rise}
 use Rattle.object_fold.proofs.Listers.{has-ids_of}
 use Rattle.object_fold.proofs.SortedIds.{same_rising}
-use Rattle.row_map.specs.Condition.{meets, meets_number}
-use Rattle.row_map.specs.Material.{selecting_tags, selecting_among}
+use Rattle.row_rules.specs.Condition.{meets, meets_number}
+use Rattle.row_rules.specs.Material.{selecting_tags, selecting_among}
 use Rattle.dep_closure.specs.PendingSet.{HasOldForms, is_named, is_reselected}
 use Rattle.dep_closure.specs.Selecting.{HandsSame, hands, has_member, reselects, selects}
 use Rattle.dep_closure.proofs.Anys.{filter_map-same, none_of, none_passes}

@@ -11,7 +11,7 @@ use Rattle.style_read.specs.Style.{StyleOf}
 use Rattle.osm_base.specs.map.Objects.{ObjectSet}
 use Rattle.osm_base.specs.values.Ids.{has}
 use Rattle.dep_closure.specs.PendingSet.{is_named}
-use Rattle.row_map.specs.Condition.{reaches_nodes}
+use Rattle.row_rules.specs.Condition.{reaches_nodes}
 use Rattle.dep_closure.specs.Relations.{is_due_relation}
 use Rattle.dep_closure.specs.Selecting.{selects_again}
 use Rattle.dep_closure.specs.Ways.{is_due}

@@ -19,8 +19,8 @@ use Rattle.osm_base.specs.map.Objects.{ObjectSet, folded_all}
 use Rattle.osm_base.specs.map.Known.{Index}
 use Rattle.osm_base.specs.map.Listers.{index_of, is_kind, listed, lists}
 use Rattle.osm_base.specs.values.Ids.{has}
-use Rattle.row_map.specs.Condition.{reaches_nodes}
-use Rattle.row_map.specs.Row.{row}
+use Rattle.row_rules.specs.Condition.{reaches_nodes}
+use Rattle.row_rules.specs.Row.{row}
 use Rattle.dep_closure.specs.Selecting.{reselects}
 
 -- a change has an entry of this key

@@ -14,8 +14,8 @@ use Rattle.osm_base.specs.map.Objects.{ObjectSet}
 use Rattle.osm_base.specs.map.Listers.{is_kind, lists, member_ids}
 use Rattle.osm_base.specs.values.Ids.{has}
 use Rattle.osm_base.specs.values.Tags.{TagMap}
-use Rattle.row_map.specs.Condition.{meets}
-use Rattle.row_map.specs.Material.{selecting_tags}
+use Rattle.row_rules.specs.Condition.{meets}
+use Rattle.row_rules.specs.Material.{selecting_tags}
 
 -- a form of a relation meets a selection of the style
 abbrev pub selects : StyleOf → Option Object → Bool

@@ -10,7 +10,7 @@ use Rattle.osm_base.specs.values.Key.{way_key}
 use Rattle.osm_base.specs.values.KeyOrder.{key_cmp}
 use Rattle.osm_base.specs.map.Known.{Index}
 use Rattle.piece_ends.specs.Pieces.{Line}
-use Rattle.row_map.specs.Shape as shape
+use Rattle.row_rules.specs.Shape as shape
 use Rattle.osm_base.specs.map.Objects.{ObjectSet, folded_all}
 use Rattle.osm_base.specs.map.Listers.{is_kind, known_of}
 use Rattle.osm_base.specs.values.Ids.{has}

@@ -9,7 +9,7 @@ ghost use Rattle.dep_closure.specs.Asks.{AsksOf};
 ghost use Rattle.dep_closure.specs.Gathered.{IsGathered};
 ghost use Rattle.dep_closure.specs.PendingSet.{ArePending, AreTooMany, LeavesRows, OfKnown, is_named, size};
 ghost use Rattle.dep_closure.specs.Questions.{AsksSomeOf};
-ghost use Rattle.row_map.specs.Condition.{reaches_nodes};
+ghost use Rattle.row_rules.specs.Condition.{reaches_nodes};
 ghost use Rattle.dep_closure.specs.Selecting.{selects_again};
 ghost use Rattle.dep_closure.specs.declared.fault.PendingFault.TheVariants.{TooMany as Many};
 

@@ -1,7 +1,7 @@
 //! Whether a style reaches nodes.
 ghost use Rattle.std.specs.Prelude.{◌≡◌, ◌&&◌};
 ghost use Rattle.std.specs.List.{list_any};
-ghost use Rattle.row_map.specs.Condition.{asks_selection, is_from_selection, names_selection, is_of_nodes, reaches_nodes};
+ghost use Rattle.row_rules.specs.Condition.{asks_selection, is_from_selection, names_selection, is_of_nodes, reaches_nodes};
 
 use style_read::{Column, Condition, Origin, Source, Style, TableDef};
 

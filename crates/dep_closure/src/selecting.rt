@@ -4,7 +4,7 @@ ghost use Rattle.std.specs.List.{AllByRecursion, list_any};
 ghost use Rattle.std.specs.Option.{option_copied};
 ghost use Rattle.osm_base.specs.values.Key.{IsId};
 ghost use Rattle.osm_base.specs.map.Listers.{member_ids};
-ghost use Rattle.row_map.specs.Condition.{meets};
+ghost use Rattle.row_rules.specs.Condition.{meets};
 ghost use Rattle.dep_closure.specs.Adds.{Adds};
 ghost use Rattle.dep_closure.specs.Selecting.{selects, has_member, reselects, selects_again};
 

@@ -4,8 +4,8 @@ use Rattle.osm_base.specs.map.Known.{Known}
 use Rattle.osm_base.specs.map.Objects.{ObjectSet}
 use Rattle.osm_base.specs.values.Key.{KeyOf}
 use Rattle.style_read.specs.Style.{StyleOf}
-use Rattle.row_map.proofs.Locality.{row_from-suffices}
-use Rattle.row_map.specs.Rows.{rows_below, rows_in, rows_known}
+use Rattle.row_rules.proofs.Locality.{row_from-suffices}
+use Rattle.row_rules.specs.Rows.{rows_below, rows_in, rows_known}
 use Rattle.geom_workers.specs.Rows.{RowsAgree, SufficesFor}
 
 same_rows : (style : StyleOf) (known : Known) (objects : ObjectSet) (key : KeyOf) → SufficesFor style known objects key

@@ -5,7 +5,7 @@ use Rattle.osm_base.specs.map.Pending.{PendingOf}
 use Rattle.osm_base.specs.declared.values.row.TableRow.{TableRow}
 use Rattle.style_read.specs.Style.{StyleOf}
 use Rattle.geom_workers.specs.Keys.{key_at}
-use Rattle.row_map.specs.Rows.{rows_known}
+use Rattle.row_rules.specs.Rows.{rows_known}
 use Rattle.geom_workers.specs.declared.part.Part.{Part}
 
 -- the rows of the key with a number

@@ -5,8 +5,8 @@ use Rattle.osm_base.specs.map.Known.{Known}
 use Rattle.osm_base.specs.map.Objects.{ObjectSet}
 use Rattle.osm_base.specs.values.Key.{KeyOf}
 use Rattle.style_read.specs.Style.{StyleOf}
-use Rattle.row_map.specs.Agree.{Suffices}
-use Rattle.row_map.specs.Rows.{rows_in, rows_known}
+use Rattle.row_rules.specs.Agree.{Suffices}
+use Rattle.row_rules.specs.Rows.{rows_in, rows_known}
 
 -- what is known suffices for all rows of a key in a map with these objects
 abbrev pub SufficesFor : StyleOf → Known → ObjectSet → KeyOf → Type 0

@@ -8,7 +8,7 @@ ghost use Rattle.pending_book.specs.Seat.{seat_view};
 ghost use Rattle.geom_workers.specs.Builds.{Builds};
 ghost use Rattle.geom_workers.specs.Keys.{keys_of};
 ghost use Rattle.geom_workers.specs.Rows.{SufficesFor};
-ghost use Rattle.row_map.specs.Rows.{rows_in, rows_known};
+ghost use Rattle.row_rules.specs.Rows.{rows_in, rows_known};
 
 use crate::keys::MAX_KEYS;
 use crate::tickets::by_ticket;

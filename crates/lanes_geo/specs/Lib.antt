@@ -1,3 +1,4 @@
 pub mod Box
 pub mod Crossing
 pub mod Grid
+pub mod Nesting

@@ -10,6 +10,9 @@
 //! `box_of` is the box of places, and `boxes_meet` marks the boxes that have a place in common with
 //! an asked one, sides included. Each is equal to its plain definition for every length. `is_met`
 //! asks one box, and `across` and `along` are the two products of one segment and one place.
+//!
+//! What the polygons of rings are is defined here too, in `specs/Nesting.antt`, since it is said by
+//! these crossings. `ring_nest` builds them, and what only cites them needs none of its code.
 #![tactic(auto)]
 
 mod boxes;

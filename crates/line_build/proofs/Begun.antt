@@ -4,7 +4,7 @@ use Rattle.piece_ends.specs.Pieces.{Line, is_closed}
 use Rattle.piece_ends.specs.Walk.{extended}
 use Rattle.piece_ends.proofs.Steps.{Found, found_of, extended-closed}
 use Rattle.piece_ends.proofs.Lines.{Grows, length-extended}
-use Rattle.line_build.specs.Joins.{extended_at_first, line_begun}
+use Rattle.piece_ends.specs.Joins.{extended_at_first, line_begun}
 
 alone : (piece : Line) (unused : List Line) → is_closed piece ≡ true → line_begun piece unused ≡ found_of piece unused
 alone piece unused closed =

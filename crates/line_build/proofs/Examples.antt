@@ -3,7 +3,7 @@ use Rattle.std.proofs.Common.{◌≡◌, [], ◌∷◌, refl}
 use Rattle.std.specs.Prelude.{ℤ, pos, neg_ℤ}
 use Rattle.osm_base.specs.values.Place.{PlaceOf}
 use Rattle.piece_ends.specs.Walk.{extended, lines_within}
-use Rattle.line_build.specs.Joins.{joined}
+use Rattle.piece_ends.specs.Joins.{joined}
 
 abbrev at : ℤ → ℤ → PlaceOf
 at lon lat = record { lon = lon; lat = lat }

@@ -1,7 +1,7 @@
 //! Pieces joined to lines at their ends.
 ghost use Rattle.std.specs.Prelude.{◌≡◌, ◌<◌, length, IfOk};
 ghost use Rattle.piece_ends.specs.Pieces.{ArePieces};
-ghost use Rattle.line_build.specs.Joins.{joined, line_begun};
+ghost use Rattle.piece_ends.specs.Joins.{joined, line_begun};
 
 use osm_base::{LineList, OutOfMemory, Places};
 use piece_ends::{UnusedPieces, extend, is_closed};

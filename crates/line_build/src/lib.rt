@@ -2,7 +2,7 @@
 //!
 //! A way gives the points of its nodes, and a line where there are two of them; the lines of the ways
 //! of a relation are joined at their ends. What lines are built of is looked up through `Lookup`, in
-//! memory or in a store alike.
+//! memory or in a store alike. `piece_ends` has the definitions, and the walk that joins.
 #![tactic(auto)]
 
 mod joins;

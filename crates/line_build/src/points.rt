@@ -1,7 +1,7 @@
 //! The points and the line of a way.
 ghost use Rattle.std.specs.Prelude.{◌≡◌, IfOk};
 ghost use Rattle.std.specs.List.{filter_map};
-ghost use Rattle.line_build.specs.Points.{points, line};
+ghost use Rattle.piece_ends.specs.Points.{points, line};
 
 use osm_base::{Lookup, OutOfMemory, Place, Places};
 use std::alloc::Global;

@@ -11,7 +11,7 @@ use Rattle.piece_ends.specs.Walk.{lines_by}
 use Rattle.piece_ends.proofs.SamePlace.{same_place-itself}
 use Rattle.piece_ends.proofs.Steps.{found_of, extended-closed}
 use Rattle.piece_ends.proofs.Lines.{Grows, length-extended}
-use Rattle.ring_build.specs.Rings.{open_ends, has_odd_place, ring_begun, has_four_points, rings}
+use Rattle.piece_ends.specs.Rings.{open_ends, has_odd_place, ring_begun, has_four_points, rings}
 use Rattle.osm_base.specs.values.Line.{IsRing}
 use Rattle.ring_build.proofs.Parity.{bit, touches, ends_at, ends_at-cons, own_ends-touches, touches-closed, IsWalked, walked}
 use Rattle.ring_build.proofs.OddPlaces.{has_odd_place-true, has_odd_place-false}

@@ -3,7 +3,7 @@ use Rattle.std.proofs.Common.{◌≡◌, [], ◌∷◌, Some, None, refl}
 use Rattle.std.specs.Prelude.{ℤ, pos, neg_ℤ}
 use Rattle.osm_base.specs.values.Place.{PlaceOf}
 use Rattle.piece_ends.specs.Walk.{extended, lines_within}
-use Rattle.ring_build.specs.Rings.{rings}
+use Rattle.piece_ends.specs.Rings.{rings}
 
 abbrev at : ℤ → ℤ → PlaceOf
 at lon lat = record { lon = lon; lat = lat }

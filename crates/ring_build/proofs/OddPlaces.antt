@@ -6,7 +6,7 @@ use Rattle.std.proofs.lemmas.List.Sums.{sum_by-cons}
 use Rattle.osm_base.specs.values.Place.{PlaceOf}
 use Rattle.piece_ends.specs.Pieces.{same_place}
 use Rattle.piece_ends.proofs.SamePlace.{one_place}
-use Rattle.ring_build.specs.Rings.{is_odd_among, has_odd_place}
+use Rattle.piece_ends.specs.Rings.{is_odd_among, has_odd_place}
 
 abbrev ends_there : PlaceOf → List PlaceOf → ℕ
 ends_there place ends = count_by (λ end. same_place end place) ends

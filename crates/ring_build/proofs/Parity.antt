@@ -10,7 +10,7 @@ use Rattle.piece_ends.specs.Pieces.{Line, same_place, first_place, last_place, i
 use Rattle.piece_ends.specs.Walk.{next_at, appended, turned_to, extended}
 use Rattle.piece_ends.proofs.SamePlace.{one_place}
 use Rattle.piece_ends.proofs.Steps.{Found, found_of, length-next_at}
-use Rattle.ring_build.specs.Rings.{ends_of, open_ends}
+use Rattle.piece_ends.specs.Rings.{ends_of, open_ends}
 use Rattle.ring_build.proofs.Appended.{two_points, first_place-append, last_place-append, last_place-reverse}
 
 abbrev pub bit : Bool → ℕ

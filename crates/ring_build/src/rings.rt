@@ -2,7 +2,7 @@
 ghost use Rattle.std.specs.Prelude.{◌≡◌, ◌<◌, ◌↔◌, length, IfOk, IfSome, IsTrue, All};
 ghost use Rattle.osm_base.specs.values.Line.{IsRing};
 ghost use Rattle.piece_ends.specs.Pieces.{ArePieces};
-ghost use Rattle.ring_build.specs.Rings.{rings, ring_begun};
+ghost use Rattle.piece_ends.specs.Rings.{rings, ring_begun};
 
 use osm_base::{LineList, OutOfMemory, Place, Places};
 use piece_ends::{UnusedPieces, extend, is_closed};

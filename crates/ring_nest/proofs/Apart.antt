@@ -18,8 +18,8 @@ use Rattle.lanes_geo.specs.Grid.{IsPlace, apart, east_of, north_of}
 use Rattle.lanes_geo.proofs.Crossed.{EndsOnEarth, differ, crosses_is}
 use Rattle.lanes_geo.proofs.Level.{IsOnSide, none_crossed}
 use Rattle.lanes_geo.proofs.Sides.{shifted}
+use Rattle.lanes_geo.specs.Nesting.{first_off, holds, is_between, is_inside, lies_on, lies_within}
 use Rattle.ring_nest.specs.Around.{at_place, is_well_within, may_hold, start}
-use Rattle.ring_nest.specs.Nesting.{first_off, holds, is_between, is_inside, lies_on, lies_within}
 use Rattle.ring_nest.proofs.Closed.{last_from, comes_back, place_at}
 use Rattle.ring_nest.proofs.Itself.{end_on, equal, first_between, nothing_left, start_on}
 

@@ -10,11 +10,11 @@ use Rattle.std.proofs.lemmas.List.Elements.{filter-append}
 use Rattle.std.proofs.lemmas.List.Sorted.{list_any-IsPermutation}
 use Rattle.std.proofs.lemmas.List.Sums.{count_by-le-length}
 use Rattle.osm_base.specs.declared.values.place.GeoBox.{GeoBox}
+use Rattle.lanes_geo.specs.Nesting.{Ring, depth, holds, owns, ring_at}
 use Rattle.ring_nest.specs.declared.tree.Tree.{Tree}
 use Rattle.ring_nest.specs.DepthTrees.{HasLists, of_depth}
 use Rattle.ring_nest.specs.Around.{around}
 use Rattle.ring_nest.specs.Holders.{IsLeast, holders_in, inner_owner, is_above, is_holder, numbers_of}
-use Rattle.ring_nest.specs.Nesting.{Ring, depth, holds, owns, ring_at}
 use Rattle.ring_nest.proofs.Filled.{inner_is}
 use Rattle.ring_nest.proofs.Owned.{all_filter, any_filter, any_same, owner_from, owner_none, owner_some, owns_is, range_below, range_more, rings_are, stands}
 

@@ -10,8 +10,8 @@ use Rattle.lanes_geo.proofs.Crossed.{EndsOnEarth, crosses_is, differ, west_sum, 
 use Rattle.lanes_geo.specs.Crossing.{Segment, crosses, crossings, odd, segments_from}
 use Rattle.lanes_geo.specs.Grid.{IsPlace, apart, east_of, north_of}
 use Rattle.osm_base.specs.values.Place.{PlaceOf}
+use Rattle.lanes_geo.specs.Nesting.{Ring, holds, lies_on, ring_at}
 use Rattle.ring_nest.specs.Latitudes.{at_latitude}
-use Rattle.ring_nest.specs.Nesting.{Ring, holds, lies_on, ring_at}
 use Rattle.ring_nest.specs.Opened.{odd_in, sum_open}
 use Rattle.ring_nest.specs.Told.{Tells, is_marked, near, own_part, westward}
 use Rattle.ring_nest.proofs.Free.{lies_on_none}

@@ -5,9 +5,9 @@ use Rattle.std.specs.List.{filter, list_all}
 use Rattle.std.proofs.lemmas.Bool.Decides.{nat_tests}
 use Rattle.std.proofs.lemmas.Grind.{get_or_default_zero}
 use Rattle.std.proofs.lemmas.List.{append-nil, get_or_default, length-map}
+use Rattle.lanes_geo.specs.Nesting.{Ring, depth, holds, is_outer, owns, owner, belongs, ring_at}
 use Rattle.ring_nest.specs.declared.tree.Tree.{Tree}
 use Rattle.ring_nest.specs.Holders.{HoldsAll, IsLeast, holders_in, inner_owner, is_above}
-use Rattle.ring_nest.specs.Nesting.{Ring, depth, holds, is_outer, owns, owner, belongs, ring_at}
 use Rattle.ring_nest.specs.Polygons.{polygons_from, slots_from}
 use Rattle.ring_nest.proofs.Owned.{owner_from, owner_is}
 use Rattle.ring_nest.proofs.Held.{next_of}

@@ -7,7 +7,7 @@ use Rattle.std.proofs.lemmas.Bool.{cases_Bool, false≢true}
 use Rattle.std.proofs.lemmas.Int.{ints}
 use Rattle.lanes_geo.specs.Crossing.{Segment, across, along, crosses, segments_from}
 use Rattle.osm_base.specs.values.Place.{PlaceOf}
-use Rattle.ring_nest.specs.Nesting.{are_equal, is_between, lies_within}
+use Rattle.lanes_geo.specs.Nesting.{are_equal, is_between, lies_within}
 use Rattle.ring_nest.specs.Told.{westward}
 
 one_less : (x a k : ℤ) → (x -ℤ pos 1 -ℤ a) *ℤ k ≡ (x -ℤ a) *ℤ k -ℤ k

@@ -7,8 +7,8 @@ use Rattle.std.proofs.lemmas.List.{take_more}
 use Rattle.osm_base.specs.declared.values.place.GeoBox.{GeoBox}
 use Rattle.osm_base.specs.values.Place.{PlaceOf}
 use Rattle.lanes_geo.specs.Box.{meets}
+use Rattle.lanes_geo.specs.Nesting.{Ring, holds}
 use Rattle.ring_nest.specs.Around.{Covers, IsBoxed, around, at_place, is_well_within, may_hold, start}
-use Rattle.ring_nest.specs.Nesting.{Ring, holds}
 use Rattle.ring_nest.proofs.Apart.{holds_none, holds_none_beside}
 
 fewer : (a b c d p q r s : Bool) → (p ≡ true → a ≡ true) → (q ≡ true → b ≡ true) → (r ≡ true → c ≡ true) → (s ≡ true → d ≡ true)

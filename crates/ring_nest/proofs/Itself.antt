@@ -5,7 +5,7 @@ use Rattle.std.proofs.lemmas.Int.{ints}
 use Rattle.std.proofs.Math.IntN.{*ℤ-zero, zero-*ℤ}
 use Rattle.osm_base.specs.values.Place.{PlaceOf}
 use Rattle.lanes_geo.specs.Crossing.{Segment, segments_from, across, along}
-use Rattle.ring_nest.specs.Nesting.{Ring, are_equal, is_between, lies_within, lies_on, first_off, holds}
+use Rattle.lanes_geo.specs.Nesting.{Ring, are_equal, is_between, lies_within, lies_on, first_off, holds}
 
 same : (z : ℤ) → int_le z z ≡ true
 same z = grind (arith, ints)

@@ -7,8 +7,8 @@ use Rattle.std.proofs.lemmas.List.Sorted.{sum_by-IsPermutation}
 use Rattle.std.proofs.lemmas.List.Sums.{sum_by-append, sum_by-cons}
 use Rattle.lanes_geo.specs.Grid.{north_of}
 use Rattle.osm_base.specs.values.Place.{PlaceOf}
+use Rattle.lanes_geo.specs.Nesting.{Ring}
 use Rattle.ring_nest.specs.Latitudes.{at_latitude}
-use Rattle.ring_nest.specs.Nesting.{Ring}
 use Rattle.ring_nest.specs.Opened.{sum_open}
 use Rattle.ring_nest.proofs.Held.{first_of}
 

@@ -7,8 +7,8 @@ use Rattle.std.specs.List.Sorted.{IsPermutation}
 use Rattle.std.proofs.lemmas.List.{append-nil}
 use Rattle.std.proofs.lemmas.List.Sorted.{sum_by-IsPermutation}
 use Rattle.std.proofs.lemmas.List.Sums.{length-filter, sum_by-cons}
+use Rattle.lanes_geo.specs.Nesting.{Ring, depth, holds, ring_at}
 use Rattle.ring_nest.specs.Holders.{is_holder}
-use Rattle.ring_nest.specs.Nesting.{Ring, depth, holds, ring_at}
 use Rattle.ring_nest.specs.Told.{is_marked, marked_holders, other_holders, unmarked}
 use Rattle.ring_nest.proofs.Owned.{all_filter, range_below, range_more}
 use Rattle.ring_nest.proofs.Sums.{count_all}

@@ -6,10 +6,10 @@ use Rattle.std.proofs.lemmas.Int.{ints}
 use Rattle.lanes_geo.specs.Crossing.{crossings, odd}
 use Rattle.lanes_geo.specs.Grid.{IsPlace, east_of, north_of}
 use Rattle.osm_base.specs.values.Place.{PlaceOf}
+use Rattle.lanes_geo.specs.Nesting.{Ring}
 use Rattle.ring_nest.specs.Edge.{EdgeOf}
 use Rattle.ring_nest.specs.declared.opened.TheConstants.{TOP}
 use Rattle.ring_nest.specs.Edges.{falling, passes, rising}
-use Rattle.ring_nest.specs.Nesting.{Ring}
 use Rattle.ring_nest.specs.Opened.{AreMeasured, IsMeasured, count_at, sum_open}
 use Rattle.ring_nest.specs.Opening.{IsOpened, OpensIn}
 use Rattle.std.proofs.lemmas.List.Sums.{sum_by-append}

@@ -5,8 +5,8 @@ use Rattle.std.proofs.lemmas.Bool.Decides.{nat_tests}
 use Rattle.lanes_geo.specs.Crossing.{crossings, odd}
 use Rattle.lanes_geo.specs.Grid.{IsPlace, east_of}
 use Rattle.osm_base.specs.values.Place.{PlaceOf}
+use Rattle.lanes_geo.specs.Nesting.{Ring, ring_at}
 use Rattle.ring_nest.specs.Around.{IsBoxed}
-use Rattle.ring_nest.specs.Nesting.{Ring, ring_at}
 use Rattle.ring_nest.specs.Opened.{crossings_in, odd_in, sum_open}
 use Rattle.ring_nest.specs.Told.{Tells, is_marked, marked_holders, near, own_part, westward}
 use Rattle.ring_nest.proofs.Depths.{crossed_more, marked_holders as marked_are}

@@ -2,7 +2,7 @@
 use Rattle.std.proofs.Common.{◌≡◌, ℕ, ◌+◌, ◌<◌, suc, refl, sym, ◌∙◌, ap, arith, List, [], ◌∷◌, length, map, get_or, Bool, true, false, cond}
 use Rattle.std.proofs.Common.{if◌then◌else◌}
 use Rattle.std.specs.List.{filter, range_with_len}
-use Rattle.ring_nest.specs.Nesting.{Ring, is_outer, belongs, nested, outers, polygon, ring_at}
+use Rattle.lanes_geo.specs.Nesting.{Ring, is_outer, belongs, nested, outers, polygon, ring_at}
 use Rattle.ring_nest.specs.Polygons.{filled, polygons_from}
 
 -- the polygon of an outer ring with some of the inner rings

@@ -13,9 +13,9 @@ use Rattle.std.proofs.lemmas.List.Sorted.{IsPermutation-append, IsPermutation-tr
 use Rattle.std.proofs.lemmas.List.Sorted.{sum_by-IsPermutation}
 use Rattle.std.proofs.lemmas.List.Folds.{list_any-append}
 use Rattle.std.proofs.lemmas.List.Sums.{length-filter, sum_by-cons}
+use Rattle.lanes_geo.specs.Nesting.{Ring, depth, holds, owner, owns, ring_at}
 use Rattle.ring_nest.specs.declared.tree.Tree.{Tree}
 use Rattle.ring_nest.specs.Holders.{HoldsAll, IsLeast, few_of, holders_in, is_above, is_holder, lesser_of, numbers_of}
-use Rattle.ring_nest.specs.Nesting.{Ring, depth, holds, owner, owns, ring_at}
 use Rattle.ring_nest.proofs.Held.{next_of}
 
 -- one number more

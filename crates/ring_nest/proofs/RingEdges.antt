@@ -8,9 +8,9 @@ use Rattle.lanes_geo.proofs.Crossed.{crosses_is, differ}
 use Rattle.lanes_geo.specs.Crossing.{Segment, crosses, crossings, segments_from}
 use Rattle.lanes_geo.specs.Grid.{IsPlace, apart, east_of, north_of}
 use Rattle.osm_base.specs.values.Place.{PlaceOf}
+use Rattle.lanes_geo.specs.Nesting.{Ring}
 use Rattle.ring_nest.specs.Edge.{EdgeOf}
 use Rattle.ring_nest.specs.Edges.{edge_between, falling, falling_from, passes, rising, rising_from}
-use Rattle.ring_nest.specs.Nesting.{Ring}
 
 -- a segment that goes north, from a to b
 north_is : (h a b e A B : ℕ) → a < b

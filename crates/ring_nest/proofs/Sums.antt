@@ -2,7 +2,7 @@
 use Rattle.std.proofs.Common.{◌≡◌, ◌≢◌, ℕ, ◌+◌, ◌-◌, ◌<◌, ◌≤◌, zero, suc, refl, ap, ◌∙◌, Bool, true, false, cond, not, List, [], ◌∷◌, length, map, count_by, arith}
 use Rattle.std.specs.List.{AllByRecursion}
 use Rattle.std.proofs.lemmas.List.Sums.{sum_by-cons}
-use Rattle.ring_nest.specs.Nesting.{Ring, ring_at}
+use Rattle.lanes_geo.specs.Nesting.{Ring, ring_at}
 use Rattle.ring_nest.specs.Opened.{sum_open}
 use Rattle.ring_nest.specs.Told.{is_marked, own_part}
 

@@ -6,11 +6,11 @@ use Rattle.std.proofs.lemmas.List.{get_or_default, get_or-map, length-map}
 use Rattle.std.proofs.lemmas.List.Elements.{filter-append}
 use Rattle.osm_base.specs.declared.values.place.GeoBox.{GeoBox}
 use Rattle.lanes_geo.specs.Box.{meets}
+use Rattle.lanes_geo.specs.Nesting.{Ring, ring_at}
 use Rattle.ring_nest.specs.declared.tree.Tree.{Tree}
 use Rattle.ring_nest.specs.declared.tree.Tree.TheVariants.{Few, Halves'}
 use Rattle.ring_nest.specs.Around.{Covers, IsBoxed, around, may_hold, some_box}
 use Rattle.ring_nest.specs.Holders.{IsCovered, IsTree, box_at, box_of_tree, is_holder, numbers_of}
-use Rattle.ring_nest.specs.Nesting.{Ring, ring_at}
 use Rattle.ring_nest.proofs.Held.{all_at, covers_more, may_hold_less, next_of, not_held_beside}
 
 -- a member is the ring with its number

@@ -6,7 +6,7 @@ use Rattle.osm_base.specs.values.Place.{PlaceOf}
 use Rattle.osm_base.specs.declared.values.place.GeoBox.{GeoBox}
 use Rattle.lanes_geo.specs.Box.{IsWithin, box_of, meets}
 use Rattle.lanes_geo.specs.Grid.{IsPlace}
-use Rattle.ring_nest.specs.Nesting.{Ring}
+use Rattle.lanes_geo.specs.Nesting.{Ring}
 
 -- a box, where there is one
 abbrev pub some_box : Option GeoBox → GeoBox

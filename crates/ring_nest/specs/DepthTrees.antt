@@ -3,10 +3,10 @@ use Rattle.std.specs.Prelude.{◌≡◌, ◌<◌, ◌+◌, ℕ, [], List, length
 use Rattle.std.specs.List.{AllByRecursion, filter, range_with_len}
 use Rattle.std.specs.List.Sorted.{IsPermutation}
 use Rattle.osm_base.specs.declared.values.place.GeoBox.{GeoBox}
+use Rattle.lanes_geo.specs.Nesting.{Ring}
 use Rattle.ring_nest.specs.declared.tree.Tree.{Tree}
 use Rattle.ring_nest.specs.Around.{IsBoxed, around}
 use Rattle.ring_nest.specs.Holders.{IsTree, is_above, numbers_of}
-use Rattle.ring_nest.specs.Nesting.{Ring}
 
 -- the numbers of the rings of a depth, among the first ones: a ring that is one deeper has its owner among them
 abbrev pub of_depth : List ℕ → ℕ → ℕ → List ℕ

@@ -4,11 +4,11 @@ use Rattle.std.specs.Prelude.{◌≡◌, ◌≤◌, ◌+◌, ◌-◌, ◌*◌, �
 use Rattle.std.specs.Coded.{×_prop, Unit-prop}
 use Rattle.std.proofs.Props.{props}
 use Rattle.std.specs.List.{AllByRecursion}
+use Rattle.lanes_geo.specs.Nesting.{Ring}
 use Rattle.ring_nest.specs.Edge.{EdgeOf}
 use Rattle.ring_nest.specs.declared.row.Row.{Row}
 use Rattle.lanes_geo.specs.Grid.{east_of, north_of}
 use Rattle.osm_base.specs.values.Place.{PlaceOf}
-use Rattle.ring_nest.specs.Nesting.{Ring}
 
 -- whether an edge has a latitude, its north end left out
 abbrev pub straddles : (north : ℕ) → EdgeOf → Bool

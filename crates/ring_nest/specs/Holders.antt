@@ -5,6 +5,7 @@ use Rattle.std.proofs.Props.{props}
 use Rattle.std.specs.List.{AllByRecursion, filter, list_any, range_with_len}
 use Rattle.std.specs.List.Sorted.{IsPermutation}
 use Rattle.osm_base.specs.declared.values.place.GeoBox.{GeoBox}
+use Rattle.lanes_geo.specs.Nesting.{Ring, depth, holds, is_outer, owner, ring_at}
 use Rattle.ring_nest.specs.declared.tree.Leaf.{Leaf}
 use Rattle.ring_nest.specs.declared.tree.Tree.{Tree}
 use Rattle.ring_nest.specs.declared.tree.Tree.TheVariants.{Few, Halves'}
@@ -12,7 +13,6 @@ use Rattle.ring_nest.specs.declared.tree.TheConstants.{LEAF}
 use Rattle.ring_nest.specs.declared.holders.Holders.{Holders}
 use Rattle.ring_nest.specs.declared.holders.TheConstants.{FEW}
 use Rattle.ring_nest.specs.Around.{Covers, IsBoxed, around, some_box, start}
-use Rattle.ring_nest.specs.Nesting.{Ring, depth, holds, is_outer, owner, ring_at}
 
 -- whether the ring with a number holds a ring
 abbrev pub is_holder : List Ring → Ring → ℕ → Bool

@@ -2,7 +2,7 @@
 use Rattle.std.specs.Prelude.{ℕ, ◌==◌, count_by}
 use Rattle.lanes_geo.specs.Grid.{north_of}
 use Rattle.osm_base.specs.values.Place.{PlaceOf}
-use Rattle.ring_nest.specs.Nesting.{Ring}
+use Rattle.lanes_geo.specs.Nesting.{Ring}
 
 -- how many places of a ring have a latitude, by how far north of the south pole it is
 abbrev pub at_latitude : ℕ → Ring → ℕ

@@ -1,4 +1,3 @@
-pub mod Nesting
 pub mod Polygons
 pub mod Around
 pub mod Holders

@@ -3,9 +3,9 @@ use Rattle.std.specs.Prelude.{◌≡◌, ◌+◌, ℕ, Bool, cond, List, [], ◌
 use Rattle.lanes_geo.specs.Crossing.{crossings, odd}
 use Rattle.lanes_geo.specs.Grid.{IsPlace, east_of, north_of}
 use Rattle.osm_base.specs.values.Place.{PlaceOf}
+use Rattle.lanes_geo.specs.Nesting.{Ring}
 use Rattle.ring_nest.specs.Edge.{EdgeOf}
 use Rattle.ring_nest.specs.Edges.{passes}
-use Rattle.ring_nest.specs.Nesting.{Ring}
 
 -- how many edges pass a place on its east side
 abbrev pub count_at : PlaceOf → List EdgeOf → ℕ

@@ -1,7 +1,7 @@
 -- How the polygons are made: an outer ring after the other, and then an inner ring after the other is put into its polygon.
 use Rattle.std.specs.Prelude.{ℕ, ◌+◌, ◌%◌, ◌==◌, List, [], ◌∷◌, Option, Some, None, if◌then◌else◌}
 use Rattle.std.specs.List.{filter, list_all}
-use Rattle.ring_nest.specs.Nesting.{Ring, is_outer, belongs, has_place}
+use Rattle.lanes_geo.specs.Nesting.{Ring, is_outer, belongs, has_place}
 
 -- the polygons of the rings from a number on, with some of the inner rings
 abbrev pub polygons_from : List Ring → List Ring → ℕ → List Ring → List (List Ring)

@@ -6,13 +6,13 @@ use Rattle.std.specs.List.Sorted.{IsNonDecreasing, IsPermutation}
 use Rattle.lanes_geo.specs.Crossing.{crossings}
 use Rattle.lanes_geo.specs.Grid.{IsPlace, east_of, north_of}
 use Rattle.osm_base.specs.values.Place.{PlaceOf}
+use Rattle.lanes_geo.specs.Nesting.{Ring, holds, ring_at}
 use Rattle.ring_nest.specs.declared.known.Known.{Known}
 use Rattle.ring_nest.specs.declared.opened.TheConstants.{TOP}
 use Rattle.ring_nest.specs.declared.slabs.Slabs.{Slabs}
 use Rattle.ring_nest.specs.Around.{around}
 use Rattle.ring_nest.specs.Holders.{IsTree, IsTree-prop, numbers_of}
 use Rattle.ring_nest.specs.Latitudes.{at_latitude}
-use Rattle.ring_nest.specs.Nesting.{Ring, holds, ring_at}
 use Rattle.ring_nest.specs.Opened.{crossings_in, odd_in, sum_open}
 use Rattle.ring_nest.specs.Slabs.{AreSlabs, AreSlabs-prop, count_in}
 

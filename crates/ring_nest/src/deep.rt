@@ -1,6 +1,6 @@
 //! Rings with their depths.
 ghost use Rattle.std.specs.Prelude.{◌≡◌, map};
-ghost use Rattle.ring_nest.specs.Nesting.{depth};
+ghost use Rattle.lanes_geo.specs.Nesting.{depth};
 
 use osm_base::Places;
 

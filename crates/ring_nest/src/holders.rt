@@ -1,7 +1,7 @@
 //! The rings that hold each ring, and what follows from them: its depth, and the ring that it belongs to.
 ghost use Rattle.std.specs.Prelude.{◌≡◌, ◌<◌, ◌%◌, length, map, IfOk, IfSome};
 ghost use Rattle.std.specs.List.{AllByRecursion, range_with_len};
-ghost use Rattle.ring_nest.specs.Nesting.{depth as depth_of_ring, ring_at};
+ghost use Rattle.lanes_geo.specs.Nesting.{depth as depth_of_ring, ring_at};
 ghost use Rattle.ring_nest.specs.Holders.{HoldsAll, IsLeast, KeepsHolders, few_of as few_of_list, holders_in, inner_owner, is_above};
 ghost use Rattle.ring_nest.specs.Told.{IsKnown};
 

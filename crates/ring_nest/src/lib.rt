@@ -1,7 +1,7 @@
 //! The polygons of rings: which rings are outer ones, and which inner rings belong to them.
 //!
-//! It stands on the kernels of `lanes_geo`. A relation's rings come in, and its polygons go out, which
-//! its rows and its tiles are made of.
+//! It stands on the kernels of `lanes_geo`, which has the definition of polygons too. A relation's rings
+//! come in, and its polygons go out, which its rows and its tiles are made of.
 //!
 //! A ring holds another one where the first place of that which does not lie on it is within it. A ring
 //! that an even number of rings hold is an outer one; another one belongs to the lowest ring that holds

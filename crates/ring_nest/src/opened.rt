@@ -2,8 +2,8 @@
 ghost use Rattle.std.specs.Prelude.{[], ◌∷◌, ◌++◌, IfOk, IfSome, List, OnOk};
 ghost use Rattle.std.specs.List.{AllByRecursion};
 ghost use Rattle.lanes_geo.specs.Grid.{IsPlace};
+ghost use Rattle.lanes_geo.specs.Nesting.{Ring};
 ghost use Rattle.ring_nest.specs.Around.{IsBoxed};
-ghost use Rattle.ring_nest.specs.Nesting.{Ring};
 ghost use Rattle.ring_nest.specs.Opened.{AreMeasured, IsMeasured};
 
 use crate::band::Band;

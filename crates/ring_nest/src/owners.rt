@@ -2,7 +2,7 @@
 //! and lie farther out cost nothing.
 ghost use Rattle.std.specs.Prelude.{◌≡◌, ◌<◌, ◌+◌, ◌++◌, ◌∷◌, [], ℕ, true, length, map, replicate, IfOk, OnOk, slice_index_or, slice_set};
 ghost use Rattle.std.specs.List.{AllByRecursion};
-ghost use Rattle.ring_nest.specs.Nesting.{depth as depth_of_ring, ring_at};
+ghost use Rattle.lanes_geo.specs.Nesting.{depth as depth_of_ring, ring_at};
 ghost use Rattle.ring_nest.specs.Holders.{IsLeast, inner_owner, lesser_of};
 ghost use Rattle.ring_nest.specs.DepthTrees.{HasLists, HasTrees, HoldsDepths, IsTreeOf};
 

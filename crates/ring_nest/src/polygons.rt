@@ -3,8 +3,8 @@ ghost use Rattle.std.specs.Prelude.{◌≡◌, ◌+◌, ◌<◌, true, take, ◌
 ghost use Rattle.std.specs.Option.{option_map};
 ghost use Rattle.osm_base.specs.values.Line.{IsRing};
 ghost use Rattle.osm_base.specs.values.Place.{PlaceOf};
+ghost use Rattle.lanes_geo.specs.Nesting.{has_place, nested};
 ghost use Rattle.ring_nest.specs.Holders.{inner_owner};
-ghost use Rattle.ring_nest.specs.Nesting.{has_place, nested};
 ghost use Rattle.ring_nest.specs.Polygons.{filled, polygons_from, slots_from};
 
 use crate::boxed::BoxedRings;

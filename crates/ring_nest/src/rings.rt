@@ -1,8 +1,8 @@
 //! One ring and one place, and whether a ring holds another one.
 ghost use Rattle.std.specs.Prelude.{◌≡◌, true};
 ghost use Rattle.lanes_geo.specs.Crossing.{odd};
+ghost use Rattle.lanes_geo.specs.Nesting.{holds as holds_ring, lies_on as lies_on_ring};
 ghost use Rattle.ring_nest.specs.Around.{IsBoxed, around};
-ghost use Rattle.ring_nest.specs.Nesting.{holds as holds_ring, lies_on as lies_on_ring};
 
 use crate::boxes::box_of_place;
 use crate::segment::lies_within_segment;

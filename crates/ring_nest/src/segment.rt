@@ -1,7 +1,7 @@
 //! One segment and one place, exact in whole numbers.
 ghost use Rattle.std.specs.Prelude.{◌≡◌, ◌&&◌};
 ghost use Rattle.lanes_geo.specs.Crossing.{Segment, across as across_of, along as along_of};
-ghost use Rattle.ring_nest.specs.Nesting.{are_equal, is_between as is_between_both, lies_within};
+ghost use Rattle.lanes_geo.specs.Nesting.{are_equal, is_between as is_between_both, lies_within};
 
 use lanes_geo::{across, along};
 use osm_base::Place;

@@ -1,8 +1,8 @@
 //! How many rings hold a ring, where that is told by the edges of all.
 ghost use Rattle.std.specs.Prelude.{◌≡◌, ◌≤◌, true, IfOk, IfSome};
 ghost use Rattle.lanes_geo.specs.Grid.{IsPlace, east_of as east_of_place};
+ghost use Rattle.lanes_geo.specs.Nesting.{depth, ring_at};
 ghost use Rattle.ring_nest.specs.Latitudes.{at_latitude};
-ghost use Rattle.ring_nest.specs.Nesting.{depth, ring_at};
 ghost use Rattle.ring_nest.specs.Opened.{crossings_in, odd_in, sum_open};
 ghost use Rattle.ring_nest.specs.Told.{Tells, AreCounted, counted_at, near, own_part, marked_holders, other_holders, westward as place_westward};
 

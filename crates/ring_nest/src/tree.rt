@@ -3,7 +3,7 @@ ghost use Rattle.std.specs.Prelude.{◌≡◌, ◌≤◌, ◌<◌, ◌++◌, ◌
 ghost use Rattle.std.specs.List.{AllByRecursion, filter};
 ghost use Rattle.std.specs.List.Sorted.{IsPermutation};
 ghost use Rattle.lanes_geo.specs.Box.{meets};
-ghost use Rattle.ring_nest.specs.Nesting.{ring_at};
+ghost use Rattle.lanes_geo.specs.Nesting.{ring_at};
 ghost use Rattle.ring_nest.specs.Around.{IsBoxed, around, is_well_within as is_well_within_box, may_hold as box_may_hold, start};
 ghost use Rattle.ring_nest.specs.Holders.{IsAsked, IsLeaf, IsTree, box_of_tree, is_holder, numbers_of};
 

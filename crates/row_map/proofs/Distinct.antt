@@ -12,7 +12,7 @@ use Rattle.std.specs.List.{AllByRecursion, dedup, dedup_from, list_any}
 use Rattle.std.specs.List.Sorted.{IsPermutation, IsSorted, IsStrictlySortedBy}
 use Rattle.std.proofs.lemmas.List.Kept.{IsStrictlySortedBy-dedup}
 use Rattle.std.proofs.lemmas.List.Sorted.{list_any-IsPermutation}
-use Rattle.row_map.specs.Cell.{distinct, marked}
+use Rattle.row_rules.specs.Cell.{distinct, marked}
 
 abbrev order : List ℕ → List ℕ → Ordering
 order = slice_cmp nat_cmp

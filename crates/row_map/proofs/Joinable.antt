@@ -12,8 +12,8 @@ use Rattle.osm_base.specs.values.Key.{KeyOf}
 use Rattle.osm_base.specs.values.Place.{PlaceOf}
 use Rattle.piece_ends.specs.Pieces.{Line, IsPiece, ArePieces, same_place}
 use Rattle.piece_ends.proofs.SamePlace.{same_place-itself}
-use Rattle.line_build.specs.Points.{line, line_through, points}
-use Rattle.row_map.specs.Shape.{line_in, lines_along}
+use Rattle.piece_ends.specs.Points.{line, line_through, points}
+use Rattle.row_rules.specs.Shape.{line_in, lines_along}
 
 -- each point differs from the one before it
 abbrev Moves : Line → Type 0

@@ -6,7 +6,7 @@ use Rattle.json.specs.Token.{Token}
 use Rattle.json.specs.Tree.{members_tokens}
 use Rattle.serde_json.specs.Written.{members_outline}
 use Rattle.osm_base.specs.values.Tags.{TagPairs}
-use Rattle.row_map.specs.Cell.{members_of}
+use Rattle.row_rules.specs.Cell.{members_of}
 use Rattle.row_map.proofs.Lists.{drop_at, drop_past}
 
 abbrev left : TagPairs → List Token

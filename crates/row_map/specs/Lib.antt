@@ -1,10 +1,1 @@
-pub mod Agree
-pub mod Cell
-pub mod Condition
-pub mod Material
-pub mod Objects
-pub mod Row
-pub mod Rows
 pub mod Seen
-pub mod Shape
-pub mod Wanted

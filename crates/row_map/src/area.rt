@@ -5,8 +5,8 @@ ghost use Rattle.std.specs.Ordering.{eq_by_cmp, nat_cmp};
 ghost use Rattle.std.specs.Str.{chars};
 ghost use Rattle.osm_base.specs.values.Line.{IsRing};
 ghost use Rattle.piece_ends.specs.Pieces.{ArePieces};
-ghost use Rattle.row_map.specs.Condition.{has_value};
-ghost use Rattle.row_map.specs.Shape as spec;
+ghost use Rattle.row_rules.specs.Condition.{has_value};
+ghost use Rattle.row_rules.specs.Shape as spec;
 
 use osm_base::{Geometry, LineList, OutOfMemory, Tags};
 use ring_build::rings_of;

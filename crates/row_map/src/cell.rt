@@ -2,8 +2,8 @@
 ghost use Rattle.std.specs.Prelude.{◌≡◌, map, true, IfOk};
 ghost use Rattle.std.specs.Str.{chars};
 ghost use Rattle.osm_base.specs.declared.values.row.Cell.TheVariants as cells;
-ghost use Rattle.row_map.specs.Cell as spec;
-ghost use Rattle.row_map.specs.Material.{selecting_among};
+ghost use Rattle.row_rules.specs.Cell as spec;
+ghost use Rattle.row_rules.specs.Material.{selecting_among};
 
 use crate::number::number_of;
 use crate::relations::Relations;

@@ -2,9 +2,9 @@
 ghost use Rattle.std.specs.Prelude.{◌≡◌, ◌<◌, length, false};
 ghost use Rattle.std.specs.List.{list_all, list_any};
 ghost use Rattle.std.specs.Str.{chars};
-ghost use Rattle.row_map.specs.Condition as spec;
-ghost use Rattle.row_map.specs.Condition.{meets_number};
-ghost use Rattle.row_map.specs.Material.{is_selected, selecting_among};
+ghost use Rattle.row_rules.specs.Condition as spec;
+ghost use Rattle.row_rules.specs.Condition.{meets_number};
+ghost use Rattle.row_rules.specs.Material.{is_selected, selecting_among};
 
 use crate::relations::Relations;
 use osm_base::{Lookup, Tags, Text};

@@ -5,10 +5,10 @@ ghost use Rattle.osm_base.specs.declared.values.row.Geometry.TheVariants as shap
 ghost use Rattle.osm_base.specs.declared.values.object.Object.{Object};
 ghost use Rattle.osm_base.specs.values.Key.{KeyOf};
 ghost use Rattle.osm_base.specs.values.Place.{PlaceOf};
-ghost use Rattle.line_build.specs.Joins.{joined};
-ghost use Rattle.line_build.specs.Points.{line};
-ghost use Rattle.row_map.specs.Shape as spec;
-ghost use Rattle.row_map.specs.Wanted as wanted;
+ghost use Rattle.piece_ends.specs.Joins.{joined};
+ghost use Rattle.piece_ends.specs.Points.{line};
+ghost use Rattle.row_rules.specs.Shape as spec;
+ghost use Rattle.row_rules.specs.Wanted as wanted;
 
 use crate::area::{area_of, bounds_area, is_area};
 use crate::pieces::pieces_of;

@@ -4,14 +4,10 @@ ghost use mir.Syntax.{w64};
 ghost use Rattle.std.specs.Char.{is_ascii_digit};
 ghost use Rattle.std.specs.List.{list_all};
 ghost use Rattle.std.specs.Str.Parse.{digits_value};
-ghost use Rattle.row_map.specs.Cell as spec;
-ghost use Rattle.row_map.specs.Cell.{are_digits, unsigned};
+ghost use Rattle.row_rules.specs.Cell as spec;
+ghost use Rattle.row_rules.specs.Cell.{are_digits, unsigned};
 
-/// Stands before a number below zero.
-pub const MINUS: u8 = b'-';
-
-/// The most digits of a number that a column of whole numbers keeps.
-pub const MAX_DIGITS: usize = 18;
+use row_rules::{MAX_DIGITS, MINUS};
 
 /// The whole number that bytes spell. `None`: they are no optional minus and from one to `MAX_DIGITS` digits.
 pub(crate) fn number_of(text: &[u8]) -> Option<i64>

@@ -1,8 +1,8 @@
 //! The pieces of a relation: the lines of its ways.
 ghost use Rattle.std.specs.Prelude.{◌≡◌, IfOk, OnOk};
 ghost use Rattle.piece_ends.specs.Pieces.{ArePieces};
+ghost use Rattle.row_rules.specs.Shape as spec;
 ghost use Rattle.row_map.specs.Seen.{AreSeen};
-ghost use Rattle.row_map.specs.Shape as spec;
 
 use line_build::line_of;
 use osm_base::{Key, Kind, LineList, Lookup, Member, Object, OutOfMemory, Places};

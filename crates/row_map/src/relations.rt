@@ -5,8 +5,8 @@ ghost use Rattle.std.specs.List.{AllByRecursion};
 ghost use Rattle.std.specs.Option.{option_copied};
 ghost use Rattle.osm_base.specs.values.Ids.{AreRisingIds};
 ghost use Rattle.osm_base.specs.values.Key.{IsId, relation_key};
-ghost use Rattle.row_map.specs.Material as spec;
-ghost use Rattle.row_map.specs.Material.{is_selected, selecting_among, relations_with};
+ghost use Rattle.row_rules.specs.Material as spec;
+ghost use Rattle.row_rules.specs.Material.{is_selected, selecting_among, relations_with};
 
 use crate::condition::meets_number;
 use osm_base::{Key, Kind, Lookup, Object, Tags};

@@ -1,14 +1,14 @@
 //! The row of an object in a table.
 ghost use Rattle.std.specs.Prelude.{◌≡◌, IfOk};
 ghost use Rattle.std.specs.Option.{option_and_then};
-ghost use Rattle.row_map.specs.Agree.{Suffices};
-ghost use Rattle.row_map.specs.Material.{material_among, material_known};
-ghost use Rattle.row_map.specs.Material.{relations_with as ids_with};
-ghost use Rattle.row_map.specs.Objects as objects;
+ghost use Rattle.row_rules.specs.Agree.{Suffices};
+ghost use Rattle.row_rules.specs.Material.{material_among, material_known};
+ghost use Rattle.row_rules.specs.Material.{relations_with as ids_with};
+ghost use Rattle.row_rules.specs.Objects as objects;
 ghost use Rattle.osm_base.specs.map.Objects.{ObjectSet};
-ghost use Rattle.row_map.specs.Row as spec;
-ghost use Rattle.row_map.specs.Row.{row_from};
-ghost use Rattle.row_map.specs.Shape as shape;
+ghost use Rattle.row_rules.specs.Row as spec;
+ghost use Rattle.row_rules.specs.Row.{row_from};
+ghost use Rattle.row_rules.specs.Shape as shape;
 
 use crate::cell::cells_of;
 use crate::condition::wants;

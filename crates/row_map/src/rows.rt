@@ -2,9 +2,9 @@
 ghost use Rattle.std.specs.Prelude.{◌≡◌, ◌≤◌, ◌++◌, ℕ, IfOk, OnOk, length};
 ghost use Rattle.std.specs.Option.{option_to_list};
 ghost use Rattle.osm_base.specs.map.Objects.{ObjectSet};
-ghost use Rattle.row_map.specs.Agree.{Suffices};
-ghost use Rattle.row_map.specs.Material.{material_among};
-ghost use Rattle.row_map.specs.Rows.{in_table, rows_from, rows_in, rows_known};
+ghost use Rattle.row_rules.specs.Agree.{Suffices};
+ghost use Rattle.row_rules.specs.Material.{material_among};
+ghost use Rattle.row_rules.specs.Rows.{in_table, rows_from, rows_in, rows_known};
 
 use crate::relations::{Relations, relations_with};
 use crate::row::row_in;

@@ -5,7 +5,7 @@ ghost use Rattle.std.specs.List.{flat_map};
 ghost use Rattle.std.specs.Str.{chars};
 ghost use Rattle.std.specs.String.{string_bytes};
 ghost use Rattle.json.specs.Token as tokens;
-ghost use Rattle.row_map.specs.Cell.{json_of};
+ghost use Rattle.row_rules.specs.Cell.{json_of};
 
 use json::Writer;
 use osm_base::{OutOfMemory, Tags};

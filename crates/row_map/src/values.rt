@@ -5,15 +5,13 @@ ghost use Rattle.std.specs.List.{join_with_byte, slice_get};
 ghost use Rattle.std.specs.Option.{option_and_then, option_map};
 ghost use Rattle.std.specs.Str.{chars};
 ghost use Rattle.osm_base.specs.values.Key.{IsId, relation_key};
-ghost use Rattle.row_map.specs.Cell as spec;
-ghost use Rattle.row_map.specs.Material.{selecting_among, selecting_tags};
+ghost use Rattle.row_rules.specs.Cell as spec;
+ghost use Rattle.row_rules.specs.Material.{selecting_among, selecting_tags};
 
 use crate::relations::{Relations, selecting_tags};
 use osm_base::{Cell, Lookup, OutOfMemory, Text};
+use row_rules::COMMA;
 use std::alloc::Global;
-
-/// Stands between two values in a cell.
-pub const COMMA: u8 = b',';
 
 /// The value that a relation hands on: that of its tag with this key, if it meets the selection with a number.
 fn value_at<'l, L: Lookup>(

@@ -1,8 +1,8 @@
 //! Which objects the tables of a style may want, whichever relations select them.
 ghost use Rattle.std.specs.Prelude.{◌≡◌, true};
 ghost use Rattle.std.specs.List.{list_all, list_any};
-ghost use Rattle.row_map.specs.Condition.{holds};
-ghost use Rattle.row_map.specs.Wanted as spec;
+ghost use Rattle.row_rules.specs.Condition.{holds};
+ghost use Rattle.row_rules.specs.Wanted as spec;
 
 use crate::condition::holds_of_tags;
 use crate::geometry::may_have_geometry;
@@ -69,7 +69,7 @@ fn one_may_want(tables: &[TableDef], object: &Object) -> bool
 
 /// Whether an object may have a row in a table of a style. Where it may not, nothing has to be known of what it lists, nor of
 /// the relations that have it as a member.
-#[tactic(auto, unfolding(crate::specs::Wanted::may_have_rows))]
+#[tactic(auto, unfolding(row_rules::specs::Wanted::may_have_rows))]
 pub fn may_have_rows(style: &Style, object: &Option<Object>) -> bool
     ensures may { result ≡ spec.may_have_rows style.now object.now }
 {

@@ -5,7 +5,7 @@ use Rattle.std.specs.Fmt.{decimal}
 use Rattle.std.specs.List.{AllByRecursion}
 use Rattle.map_query.specs.Answer.{answer}
 use Rattle.map_query.specs.declared.query.Query.{Query}
-use Rattle.row_map.specs.Row.{tables}
+use Rattle.row_rules.specs.Row.{tables}
 use Rattle.reader_rounds.specs.Rounds.{Climbs}
 use Rattle.reader_rounds.specs.Settling.{HasLength}
 use Rattle.update_flow.specs.State.{Holding}

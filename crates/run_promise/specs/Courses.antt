@@ -11,7 +11,7 @@ use Rattle.demo_map.specs.Demo.{demo_first, demo_input, demo_second}
 use Rattle.demo_map.specs.Style.{DEMO_STYLE, demo_bounds, demo_style}
 use Rattle.delta_feed.specs.Text.{delta_text, full_text}
 use Rattle.due_tiles.specs.TileText.{tile_text}
-use Rattle.row_map.specs.Row.{tables}
+use Rattle.row_rules.specs.Row.{tables}
 use Rattle.row_text.specs.Numbered.{rows_of}
 use Rattle.row_text.specs.Table.{table_text}
 use Rattle.style_read.specs.Style.{StyleOf, table_of}

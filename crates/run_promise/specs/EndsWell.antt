@@ -5,7 +5,7 @@ use Rattle.osm_base.specs.declared.values.object.Entry.{Entry}
 use Rattle.delta_feed.specs.Text.{full_text}
 use Rattle.delta_feed.specs.declared.block.Block.{Block}
 use Rattle.outside.specs.Bytes.{IfTold}
-use Rattle.row_map.specs.Row.{tables}
+use Rattle.row_rules.specs.Row.{tables}
 use Rattle.style_read.specs.Style.{StyleOf}
 use Rattle.tile_cover.specs.Table.{BoundsOf}
 use Rattle.update_flow.specs.History.{state_after}

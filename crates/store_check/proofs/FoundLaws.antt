@@ -8,7 +8,7 @@ use Rattle.osm_base.specs.map.Objects.{ObjectSet, place_in}
 use Rattle.osm_base.specs.values.Key.{relation_key}
 use Rattle.osm_base.specs.values.KeyOrder.{key_cmp}
 use Rattle.osm_base.specs.values.Place.{PlaceOf}
-use Rattle.row_map.specs.Condition.{reaches_nodes}
+use Rattle.row_rules.specs.Condition.{reaches_nodes}
 use Rattle.std.specs.Option.{option_map}
 use Rattle.style_read.specs.Style.{StyleOf}
 use Rattle.value_bytes.specs.Forms.{Spells}

@@ -15,10 +15,10 @@ use Rattle.style_read.specs.Style.{StyleOf}
 use Rattle.object_fold.proofs.IndexOf.{ids_of-rise}
 use Rattle.object_fold.proofs.Listers.{has-ids_of}
 use Rattle.object_fold.proofs.SortedIds.{same_rising}
-use Rattle.row_map.specs.Agree.{IsSameWay, SameNodes, SamePlaces, SameWays, Suffices}
-use Rattle.row_map.specs.Material.{Material, material_known, material_of, relations_with, selecting_among, selecting_tags}
-use Rattle.row_map.specs.Rows.{rows_below, rows_in, rows_known}
-use Rattle.row_map.proofs.Locality.{row_from-suffices}
+use Rattle.row_rules.specs.Agree.{IsSameWay, SameNodes, SamePlaces, SameWays, Suffices}
+use Rattle.row_rules.specs.Material.{Material, material_known, material_of, relations_with, selecting_among, selecting_tags}
+use Rattle.row_rules.specs.Rows.{rows_below, rows_in, rows_known}
+use Rattle.row_rules.proofs.Locality.{row_from-suffices}
 use Rattle.style_read.specs.declared.style.TableDef.{TableDef}
 use Rattle.std.specs.List.{slice_get}
 use Rattle.value_bytes.specs.declared.nodes.NodeRecord.{NodeRecord}

@@ -30,7 +30,7 @@ use Rattle.value_bytes.specs.declared.nodes.NodeRecord.{NodeRecord}
 use Rattle.value_bytes.specs.Objects.{object_bytes, IsStored}
 use Rattle.row_store.specs.Rows.{rows_bytes, AreRows}
 use Rattle.row_store.specs.Loading.{key_of}
-use Rattle.row_map.specs.Condition.{reaches_nodes}
+use Rattle.row_rules.specs.Condition.{reaches_nodes}
 use Rattle.store_maps.specs.Maps.{Maps, RowMap, rows_at}
 use Rattle.store_maps.specs.Stands.{HoldsNode, HoldsTags, StandsOn}
 use Rattle.store_maps.specs.Turns.{IsListing, Told, blocks_in, told_by}

@@ -17,11 +17,11 @@ use Rattle.osm_base.specs.values.Place.{PlaceOf}
 use Rattle.osm_base.specs.values.Tags.{TagMap}
 use Rattle.style_read.specs.Style.{StyleOf}
 use Rattle.style_read.specs.declared.style.TableDef.{TableDef}
-use Rattle.row_map.specs.Material.{material_known}
-use Rattle.row_map.specs.Row.{row_from}
-use Rattle.row_map.specs.Rows.{in_table, rows_in, rows_known}
-use Rattle.row_map.specs.Wanted.{may_have_rows}
-use Rattle.row_map.proofs.Unwanted.{row_from-unwanted}
+use Rattle.row_rules.specs.Material.{material_known}
+use Rattle.row_rules.specs.Row.{row_from}
+use Rattle.row_rules.specs.Rows.{in_table, rows_in, rows_known}
+use Rattle.row_rules.specs.Wanted.{may_have_rows}
+use Rattle.row_rules.proofs.Unwanted.{row_from-unwanted}
 use Rattle.value_bytes.specs.Forms.{Spells}
 use Rattle.value_bytes.specs.Maps.{Decodes, ReadAs}
 use Rattle.value_bytes.specs.Nodes.{record_bytes, IsRecord}

@@ -25,12 +25,12 @@ use Rattle.style_read.specs.declared.style.TableDef.{TableDef}
 use Rattle.object_fold.proofs.IndexOf.{ids_of-rise}
 use Rattle.object_fold.proofs.Listers.{has-ids_of}
 use Rattle.object_fold.proofs.SortedIds.{same_rising}
-use Rattle.row_map.specs.Agree.{IsSameWay, SameNodes, SamePlaces, SameWays}
-use Rattle.row_map.specs.Material.{Material, material_of, relations_with, selecting_among, selecting_tags}
-use Rattle.row_map.specs.Row.{cells_of, row, row_of, wants, with_geometry}
-use Rattle.row_map.specs.Rows.{in_table, rows_in}
-use Rattle.row_map.specs.Shape.{geometry_of, with_way}
-use Rattle.row_map.proofs.Locality.{row_from-same}
+use Rattle.row_rules.specs.Agree.{IsSameWay, SameNodes, SamePlaces, SameWays}
+use Rattle.row_rules.specs.Material.{Material, material_of, relations_with, selecting_among, selecting_tags}
+use Rattle.row_rules.specs.Row.{cells_of, row, row_of, wants, with_geometry}
+use Rattle.row_rules.specs.Rows.{in_table, rows_in}
+use Rattle.row_rules.specs.Shape.{geometry_of, with_way}
+use Rattle.row_rules.proofs.Locality.{row_from-same}
 use Rattle.store_maps.proofs.Standing.{rows_in-same}
 use Rattle.store_check.specs.Values.{IsPlaced}
 

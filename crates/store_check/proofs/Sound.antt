@@ -16,7 +16,7 @@ use Rattle.osm_base.specs.values.Ids.{AreRisingIds}
 use Rattle.osm_base.specs.values.Key.{IsId, KeyOf, node_key, way_key, relation_key}
 use Rattle.style_read.specs.Style.{StyleOf}
 use Rattle.object_fold.specs.Listings.{HasIds}
-use Rattle.row_map.specs.Condition.{reaches_nodes}
+use Rattle.row_rules.specs.Condition.{reaches_nodes}
 use Rattle.object_fold.specs.Listing.{ListingOf, listers}
 use Rattle.value_bytes.specs.Maps.{Decodes, HoldsMap}
 use Rattle.value_bytes.proofs.MapLaws.{read_one}

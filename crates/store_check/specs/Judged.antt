@@ -21,7 +21,7 @@ use Rattle.value_bytes.specs.declared.nodes.NodeRecord.{NodeRecord}
 use Rattle.value_bytes.specs.declared.store_map.StoreMap.{StoreMap}
 use Rattle.value_bytes.specs.declared.store_map.StoreMap.TheVariants as stored
 use Rattle.bucket_store.specs.Image.{Image}
-use Rattle.row_map.specs.Rows.{rows_known}
+use Rattle.row_rules.specs.Rows.{rows_known}
 use Rattle.row_store.specs.Loading.{Among, key_of}
 use Rattle.row_store.specs.Rows.{AreRows, rows_bytes}
 use Rattle.store_maps.specs.Maps.{kept_rows, unless_empty}

@@ -12,7 +12,7 @@ use Rattle.value_bytes.specs.StoreMap.{number_of}
 use Rattle.value_bytes.specs.declared.store_map.StoreMap.TheVariants as stored
 use Rattle.bucket_store.specs.Image.{Image}
 use Rattle.middle_nodes.specs.Old.{unknown}
-use Rattle.row_map.specs.Condition.{reaches_nodes}
+use Rattle.row_rules.specs.Condition.{reaches_nodes}
 use Rattle.store_maps.specs.Maps.{Maps, rows_at}
 use Rattle.store_maps.specs.Stands.{StandsOn}
 use Rattle.store_check.specs.Kept.{HoldsMaps}

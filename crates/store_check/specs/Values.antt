@@ -30,8 +30,8 @@ use Rattle.value_bytes.specs.declared.store_map.StoreMap.TheVariants as stored
 use Rattle.bucket_store.specs.Image.{Image}
 use Rattle.row_store.specs.Rows.{rows_bytes, AreRows}
 use Rattle.row_store.specs.Loading.{key_of}
-use Rattle.row_map.specs.Condition.{reaches_nodes}
-use Rattle.row_map.specs.Rows.{rows_in}
+use Rattle.row_rules.specs.Condition.{reaches_nodes}
+use Rattle.row_rules.specs.Rows.{rows_in}
 use Rattle.store_maps.specs.Maps.{kept_rows, unless_empty}
 use Rattle.store_maps.specs.Turns.{blocks_in, told_by}
 use Rattle.back_index.specs.Filling.{IsKeptAt}

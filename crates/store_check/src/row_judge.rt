@@ -7,7 +7,7 @@ ghost use Rattle.osm_base.specs.declared.values.row.Geometry.TheVariants.{Point}
 ghost use Rattle.value_bytes.specs.Forms.{Spells};
 ghost use Rattle.value_bytes.specs.Nodes.{record_bytes, IsRecord};
 ghost use Rattle.value_bytes.specs.declared.nodes.NodeRecord.{NodeRecord};
-ghost use Rattle.row_map.specs.Rows.{rows_known};
+ghost use Rattle.row_rules.specs.Rows.{rows_known};
 ghost use Rattle.store_maps.specs.Append.{MayKeep};
 ghost use Rattle.store_check.specs.Held.{held_known};
 ghost use Rattle.store_check.specs.Judged.{AreAtPlace, IsRightNode, IsSpellingOf, known_with};

@@ -20,12 +20,12 @@ use Rattle.osm_base.specs.map.Spots.{SpotOf}
 use Rattle.osm_base.specs.values.Key.{KeyOf}
 use Rattle.style_read.specs.declared.style.TableDef.{TableDef}
 use Rattle.style_read.specs.Style.{StyleOf}
-use Rattle.row_map.specs.Material.{Material, material_known, material_of}
-use Rattle.row_map.specs.Objects.{is_of_kind}
-use Rattle.row_map.specs.Row.{cells_of, row, row_from, row_of, tables, wants, with_geometry}
-use Rattle.row_map.specs.Rows.{in_table, rows_below, rows_in, rows_known}
-use Rattle.row_map.specs.Shape.{geometry_of}
-use Rattle.row_map.proofs.TableMap.{get-tables}
+use Rattle.row_rules.specs.Material.{Material, material_known, material_of}
+use Rattle.row_rules.specs.Objects.{is_of_kind}
+use Rattle.row_rules.specs.Row.{cells_of, row, row_from, row_of, tables, wants, with_geometry}
+use Rattle.row_rules.specs.Rows.{in_table, rows_below, rows_in, rows_known}
+use Rattle.row_rules.specs.Shape.{geometry_of}
+use Rattle.row_rules.proofs.TableMap.{get-tables}
 use Rattle.store_maps.specs.Rows.{AreKept, AreRising, Fits, RiseFrom, columns_in}
 use Rattle.store_maps.specs.Append.{MayKeep}
 use Rattle.store_maps.specs.Delta.{kept_row, row_in}

@@ -11,9 +11,9 @@ use Rattle.osm_base.specs.map.Objects.{ObjectSet, folded_all}
 use Rattle.osm_base.specs.values.Key.{KeyOf}
 use Rattle.osm_base.specs.values.KeyOrder.{key_cmp}
 use Rattle.style_read.specs.Style.{StyleOf}
-use Rattle.row_map.specs.Condition.{reaches_nodes}
-use Rattle.row_map.specs.Row.{row}
-use Rattle.row_map.specs.Rows.{rows_below, rows_in}
+use Rattle.row_rules.specs.Condition.{reaches_nodes}
+use Rattle.row_rules.specs.Row.{row}
+use Rattle.row_rules.specs.Rows.{rows_below, rows_in}
 use Rattle.store_maps.specs.Append.{appended, set_all_rows}
 use Rattle.store_maps.specs.Maps.{Maps, set_rows}
 use Rattle.store_maps.specs.Stands.{Stands, StandsOn}

@@ -16,8 +16,8 @@ use Rattle.osm_base.specs.values.Tags.{TagMap}
 use Rattle.style_read.specs.Style.{StyleOf}
 use Rattle.value_bytes.specs.declared.nodes.NodeRecord.{NodeRecord}
 use Rattle.object_fold.specs.Change.{IsOfKind}
-use Rattle.row_map.specs.Condition.{reaches_nodes}
-use Rattle.row_map.specs.Rows.{rows_in}
+use Rattle.row_rules.specs.Condition.{reaches_nodes}
+use Rattle.row_rules.specs.Rows.{rows_in}
 use Rattle.store_maps.specs.Maps.{Maps, rows_at, unless_empty}
 use Rattle.store_maps.specs.Turns.{IsListing, blocks_in, told_by}
 

@@ -20,12 +20,12 @@ use Rattle.osm_base.specs.values.KeyOrder.{key_cmp}
 use Rattle.osm_base.proofs.KeyLaws.{key_cmp-IsAntisymmetric}
 use Rattle.osm_base.specs.values.Place.{PlaceOf}
 use Rattle.piece_ends.specs.Pieces.{Line}
-use Rattle.line_build.specs.Points.{line}
+use Rattle.piece_ends.specs.Points.{line}
 use Rattle.osm_base.specs.map.Objects.{ObjectSet, folded, folded_all, place_in}
 use Rattle.object_fold.proofs.FoldLaws.{get-with_object}
 use Rattle.osm_base.specs.map.Listers.{is_kind, known_of}
 use Rattle.osm_base.specs.values.Ids.{has}
-use Rattle.row_map.specs.Shape.{line_in}
+use Rattle.row_rules.specs.Shape.{line_in}
 use Rattle.dep_closure.specs.Ways.{Leaves}
 use Rattle.tag_rows.specs.TrimmedChange.{trimmed_object, trimmed_entry, with_entry}
 use Rattle.tag_rows.specs.RowsById.{RowMap, set_row, text_of}

@@ -10,7 +10,7 @@ use Rattle.osm_base.specs.declared.values.key.Kind.TheVariants as kinds
 use Rattle.osm_base.specs.declared.values.object.Object.{Object}
 use Rattle.osm_base.specs.declared.values.object.Object.TheVariants.{Way}
 use Rattle.piece_ends.specs.Pieces.{Line}
-use Rattle.line_build.specs.Points.{line}
+use Rattle.piece_ends.specs.Points.{line}
 use Rattle.std.specs.Str.{chars}
 use Rattle.osm_base.specs.declared.values.object.Entry.{Entry}
 use Rattle.osm_base.specs.map.Objects.{ObjectSet, folded_all}

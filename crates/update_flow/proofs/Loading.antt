@@ -15,9 +15,9 @@ use Rattle.osm_base.specs.map.Objects.{ObjectSet}
 use Rattle.osm_base.specs.map.Spots.{TableMap}
 use Rattle.osm_base.specs.values.Key.{IsId, KeyOf, node_key, relation_key, way_key}
 use Rattle.style_read.specs.Style.{StyleOf}
-use Rattle.row_map.specs.Row.{tables}
-use Rattle.row_map.specs.Rows.{rows_in, rows_known}
-use Rattle.row_map.proofs.TableRows.{rows_known-none}
+use Rattle.row_rules.specs.Row.{tables}
+use Rattle.row_rules.specs.Rows.{rows_in, rows_known}
+use Rattle.row_rules.proofs.TableRows.{rows_known-none}
 use Rattle.object_fold.specs.Listings.{HasIds}
 use Rattle.value_bytes.specs.Maps.{HoldsMap}
 use Rattle.bucket_records.specs.Records.{BucketMap}

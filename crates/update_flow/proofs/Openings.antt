@@ -26,7 +26,7 @@ use Rattle.update_flow.specs.declared.fault.FlowFault.{FlowFault}
 use Rattle.update_flow.specs.declared.fault.FlowFault.TheVariants as flow
 use Rattle.style_read.specs.Reading.{reading}
 use Rattle.style_read.specs.Style.{StyleOf}
-use Rattle.row_map.specs.Condition.{reaches_nodes}
+use Rattle.row_rules.specs.Condition.{reaches_nodes}
 use Rattle.update_flow.specs.AtRest.{IsAt, IsOfEither, Opens, OpensAs}
 use Rattle.update_flow.specs.Faults.{of_store}
 use Rattle.update_flow.specs.Opening.{AreFieldsFor, AreOfFollower, Found, HoldsState, IsStyled, RootTold}

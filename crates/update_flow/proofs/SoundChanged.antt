@@ -21,8 +21,8 @@ use Rattle.osm_base.proofs.KeyLaws.{key_cmp-IsAntisymmetric, key_cmp_total}
 use Rattle.style_read.specs.declared.style.TableDef.{TableDef}
 use Rattle.style_read.specs.Style.{StyleOf}
 use Rattle.object_fold.specs.Listings.{HasIds}
-use Rattle.row_map.specs.Condition.{reaches_nodes}
-use Rattle.row_map.specs.Rows.{rows_in}
+use Rattle.row_rules.specs.Condition.{reaches_nodes}
+use Rattle.row_rules.specs.Rows.{rows_in}
 use Rattle.dep_closure.specs.PendingSet.{IsPendingOf}
 use Rattle.tile_cover.specs.Runs.{IsTileSet, has}
 use Rattle.tile_cover.specs.Table.{BoundsOf}

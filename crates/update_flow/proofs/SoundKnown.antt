@@ -6,7 +6,7 @@ use Rattle.osm_base.specs.declared.values.key.Kind.{Kind}
 use Rattle.osm_base.specs.declared.values.key.Kind.TheVariants as kinds
 use Rattle.osm_base.specs.values.Place.{PlaceOf}
 use Rattle.osm_base.specs.values.Tags.{TagMap}
-use Rattle.row_map.specs.Rows.{rows_in}
+use Rattle.row_rules.specs.Rows.{rows_in}
 use Rattle.value_bytes.specs.Maps.{Decodes}
 use Rattle.value_bytes.specs.Nodes.{record_bytes, IsRecord}
 use Rattle.value_bytes.specs.declared.nodes.NodeRecord.{NodeRecord}

@@ -16,8 +16,8 @@ use Rattle.osm_base.specs.values.Key.{IsId, KeyOf, node_key, way_key, relation_k
 use Rattle.osm_base.specs.values.Tags.{TagMap}
 use Rattle.style_read.specs.Style.{StyleOf}
 use Rattle.object_fold.specs.Listings.{HasIds}
-use Rattle.row_map.specs.Condition.{reaches_nodes}
-use Rattle.row_map.specs.Rows.{rows_in}
+use Rattle.row_rules.specs.Condition.{reaches_nodes}
+use Rattle.row_rules.specs.Rows.{rows_in}
 use Rattle.value_bytes.specs.declared.nodes.NodeRecord.{NodeRecord}
 use Rattle.bucket_store.specs.Image.{Image}
 use Rattle.store_maps.specs.Maps.{Maps, kept_rows, rows_at, unless_empty}

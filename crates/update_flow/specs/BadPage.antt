@@ -14,7 +14,7 @@ use Rattle.chain_store.specs.declared.kept.Kept.{Kept}
 use Rattle.chain_store.specs.declared.root.Root.{Root}
 use Rattle.bucket_store.specs.Buckets.{chain_at}
 use Rattle.bucket_store.specs.Image.{Image, Spells}
-use Rattle.row_map.specs.Condition.{reaches_nodes}
+use Rattle.row_rules.specs.Condition.{reaches_nodes}
 use Rattle.style_read.specs.Reading.{reading}
 use Rattle.style_read.specs.Style.{StyleOf}
 use Rattle.tile_cover.specs.Runs.{IsTileSet}

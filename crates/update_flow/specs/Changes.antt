@@ -7,7 +7,7 @@ use Rattle.osm_base.specs.declared.values.row.Delta.{Delta}
 use Rattle.osm_base.specs.declared.values.row.RowChange.{RowChange}
 use Rattle.osm_base.specs.map.Objects.{ObjectSet}
 use Rattle.osm_base.specs.map.Spots.{SpotOf, TableMap, changed_all, spot_cmp, spot_of}
-use Rattle.row_map.specs.Row.{tables}
+use Rattle.row_rules.specs.Row.{tables}
 use Rattle.style_read.specs.Style.{StyleOf}
 
 -- the rows of one table

@@ -11,7 +11,7 @@ use Rattle.tile_cover.specs.Runs.{IsTileSet, has}
 use Rattle.due_tiles.specs.Spelling.{set_bytes}
 use Rattle.bucket_store.specs.Image.{HasImage, Image}
 use Rattle.object_fold.specs.Listings.{HasIds}
-use Rattle.row_map.specs.Condition.{reaches_nodes}
+use Rattle.row_rules.specs.Condition.{reaches_nodes}
 use Rattle.store_maps.specs.Maps.{Maps}
 use Rattle.store_maps.specs.Stands.{Stands}
 use Rattle.store_check.specs.Kept.{HoldsMaps, HoldsOldMaps}

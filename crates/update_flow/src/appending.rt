@@ -3,7 +3,7 @@ ghost use Rattle.std.specs.Prelude.{◌≡◌, ◌≤◌, ◌+◌, ℕ, List, No
 ghost use Rattle.std.specs.FinMap as finite;
 ghost use Rattle.std.specs.Result.{result_err};
 ghost use Rattle.osm_base.specs.map.Objects.{folded_all};
-ghost use Rattle.row_map.specs.Row.{tables};
+ghost use Rattle.row_rules.specs.Row.{tables};
 ghost use Rattle.chain_store.specs.Answers.{RestsWith};
 ghost use Rattle.chain_store.specs.Chains.{disk_of, journal_of, kept_of, read_of};
 ghost use Rattle.bucket_store.specs.Buckets.{bucket_count};

@@ -5,7 +5,7 @@ ghost use Rattle.osm_base.specs.map.Objects.{ObjectSet};
 ghost use Rattle.osm_base.specs.map.Spots.{changed_all};
 ghost use Rattle.bucket_store.specs.Image.{HasImage, Image};
 ghost use Rattle.delta_feed.specs.declared.block.Block.{Block};
-ghost use Rattle.row_map.specs.Row.{tables};
+ghost use Rattle.row_rules.specs.Row.{tables};
 ghost use Rattle.store_check.specs.Maps.{KnowsTags};
 ghost use Rattle.style_read.specs.Style.{StyleOf};
 ghost use Rattle.update_flow.specs.Changes.{IsDeltaOf};

@@ -3,7 +3,7 @@ ghost use Rattle.std.specs.Prelude.{◌≡◌, ◌≤◌, ◌<◌, ◌+◌, ℕ,
 ghost use Rattle.std.specs.Result.{result_err};
 ghost use Rattle.osm_base.specs.map.Objects.{folded_all};
 ghost use Rattle.outside.specs.Disk.{Stays};
-ghost use Rattle.row_map.specs.Row.{tables};
+ghost use Rattle.row_rules.specs.Row.{tables};
 ghost use Rattle.tile_cover.specs.Runs.{has};
 ghost use Rattle.bucket_store.specs.Opening.{Fits};
 ghost use Rattle.delta_feed.specs.Sound.{IsDelta, IsFull};

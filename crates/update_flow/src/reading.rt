@@ -2,7 +2,7 @@
 ghost use Rattle.std.specs.Prelude.{◌≡◌, ◌≤◌, IfOk};
 ghost use Rattle.std.specs.Result.{result_err};
 ghost use Rattle.osm_base.specs.map.Spots.{TableMap};
-ghost use Rattle.row_map.specs.Row.{tables};
+ghost use Rattle.row_rules.specs.Row.{tables};
 ghost use Rattle.bucket_store.specs.Image.{Has, Image};
 ghost use Rattle.row_store.specs.Tables.{HoldsTables};
 ghost use Rattle.update_flow.specs.Sound.{IsSoundImport};

@@ -23,16 +23,16 @@ use Rattle.style_read.specs.declared.style.Source.TheVariants as sources
 use Rattle.style_read.specs.declared.style.TableDef.{TableDef}
 use Rattle.style_read.specs.Style.{StyleOf}
 use Rattle.object_fold.specs.Change.{IsOfKind}
-use Rattle.row_map.specs.Agree.{Agree, IsSameWay, SameNodes, SamePlaces, SameWays}
-use Rattle.row_map.specs.Condition.{is_of_nodes, names_selection, reaches_nodes}
-use Rattle.row_map.specs.Material.{Material, material_known, material_of, selecting_among, selecting_tags}
-use Rattle.row_map.specs.Objects.{is_of_kind}
-use Rattle.row_map.specs.Row.{cells_of, row, row_from, row_of, wants, with_geometry}
-use Rattle.row_map.specs.Rows.{rows_below, rows_in, rows_known}
-use Rattle.row_map.specs.Shape.{geometry_of, with_way}
-use Rattle.row_map.specs.Wanted.{may_have_rows}
-use Rattle.row_map.proofs.Locality.{row_from-same}
-use Rattle.row_map.proofs.Unwanted.{row_from-unwanted}
+use Rattle.row_rules.specs.Agree.{Agree, IsSameWay, SameNodes, SamePlaces, SameWays}
+use Rattle.row_rules.specs.Condition.{is_of_nodes, names_selection, reaches_nodes}
+use Rattle.row_rules.specs.Material.{Material, material_known, material_of, selecting_among, selecting_tags}
+use Rattle.row_rules.specs.Objects.{is_of_kind}
+use Rattle.row_rules.specs.Row.{cells_of, row, row_from, row_of, wants, with_geometry}
+use Rattle.row_rules.specs.Rows.{rows_below, rows_in, rows_known}
+use Rattle.row_rules.specs.Shape.{geometry_of, with_way}
+use Rattle.row_rules.specs.Wanted.{may_have_rows}
+use Rattle.row_rules.proofs.Locality.{row_from-same}
+use Rattle.row_rules.proofs.Unwanted.{row_from-unwanted}
 use Rattle.store_maps.specs.Maps.{Maps}
 use Rattle.store_maps.specs.Named.{known_on}
 use Rattle.store_maps.specs.Stands.{StandsOn}

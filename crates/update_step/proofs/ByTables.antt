@@ -8,7 +8,7 @@ use Rattle.std.proofs.lemmas.Bool.Decides.{nat_tests}
 use Rattle.osm_base.specs.declared.values.row.TableRow.{TableRow}
 use Rattle.osm_base.specs.map.Objects.{ObjectSet}
 use Rattle.osm_base.specs.values.Key.{KeyOf}
-use Rattle.row_map.specs.Rows.{in_table, rows_below, rows_in}
+use Rattle.row_rules.specs.Rows.{in_table, rows_below, rows_in}
 use Rattle.store_maps.specs.Rows.{Fits, RiseFrom}
 use Rattle.style_read.specs.declared.style.TableDef.{TableDef}
 use Rattle.style_read.specs.Style.{StyleOf}

@@ -19,10 +19,10 @@ use Rattle.style_read.specs.Style.{StyleOf}
 use Rattle.object_fold.specs.Change.{IsChange}
 use Rattle.object_fold.specs.Listing.{ListingOf}
 use Rattle.object_fold.proofs.FoldLaws.{Untouched, get-untouched}
-use Rattle.row_map.specs.Condition.{reaches_nodes}
-use Rattle.row_map.specs.Rows.{rows_in, rows_known}
-use Rattle.row_map.specs.Wanted.{may_have_rows}
-use Rattle.row_map.proofs.TableRows.{rows_known-none, rows_known-unwanted}
+use Rattle.row_rules.specs.Condition.{reaches_nodes}
+use Rattle.row_rules.specs.Rows.{rows_in, rows_known}
+use Rattle.row_rules.specs.Wanted.{may_have_rows}
+use Rattle.row_rules.proofs.TableRows.{rows_known-none, rows_known-unwanted}
 use Rattle.store_maps.specs.Append.{MayKeep, appended, set_all_rows}
 use Rattle.store_maps.specs.Maps.{Maps, empty_maps, rows_at, unless_empty, way_or_relation_in}
 use Rattle.store_maps.specs.Stands.{Stands, StandsOn}

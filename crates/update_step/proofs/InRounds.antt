@@ -12,7 +12,7 @@ use Rattle.osm_base.specs.map.Known.{Known}
 use Rattle.osm_base.specs.map.Listers.{is_kind}
 use Rattle.osm_base.specs.values.Key.{KeyOf}
 use Rattle.style_read.specs.Style.{StyleOf}
-use Rattle.row_map.specs.Wanted.{may_have_rows}
+use Rattle.row_rules.specs.Wanted.{may_have_rows}
 use Rattle.update_step.specs.Gather.{AlongWay, AreAsked, AroundNode, Ask, AtNode, Gathered, Gathers, IsRight, OfKey, all_needs}
 use Rattle.update_step.specs.Gather.{known_in, listed_asks, lister_asks, member_asks, part_asks, place_asks, relation_asks, was_asked}
 use Rattle.update_step.specs.Gather.{way_asks}

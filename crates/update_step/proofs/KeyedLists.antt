@@ -12,7 +12,7 @@ use Rattle.std.proofs.lemmas.List.Folds.{list_any-append}
 use Rattle.osm_base.specs.declared.values.row.Row.{Row}
 use Rattle.osm_base.specs.declared.values.row.TableRow.{TableRow}
 use Rattle.osm_base.specs.values.Key.{KeyOf}
-use Rattle.row_map.proofs.TableRows.{drop_item}
+use Rattle.row_rules.proofs.TableRows.{drop_item}
 use Rattle.store_maps.specs.Delta.{row_in}
 use Rattle.store_maps.specs.SameRows.{same_row}
 use Rattle.store_maps.proofs.RowEquality.{same_row-is}

@@ -19,7 +19,7 @@ use Rattle.osm_base.specs.values.Tags.{TagMap}
 use Rattle.osm_base.specs.values.KeyOrder.{key_cmp}
 use Rattle.osm_base.proofs.KeyLaws.{key_cmp_total}
 use Rattle.style_read.specs.Style.{StyleOf}
-use Rattle.row_map.specs.Condition.{reaches_nodes}
+use Rattle.row_rules.specs.Condition.{reaches_nodes}
 use Rattle.dep_closure.specs.PendingSet.{is_named, is_pending_node, is_pending_relation, is_pending_way, ways_in}
 use Rattle.store_maps.specs.Maps.{block_of}
 use Rattle.store_maps.specs.Turns.{blocks_in, listed_by}

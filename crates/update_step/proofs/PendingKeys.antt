@@ -26,8 +26,8 @@ use Rattle.osm_base.proofs.KeyLaws.{key_cmp-IsAntisymmetric, key_cmp_total}
 use Rattle.style_read.specs.Style.{StyleOf}
 use Rattle.object_fold.proofs.FoldLaws.{get-with_object}
 use Rattle.object_fold.proofs.SortedIds.{same_rising}
-use Rattle.row_map.specs.Condition.{reaches_nodes}
-use Rattle.row_map.specs.Rows.{rows_in, rows_known}
+use Rattle.row_rules.specs.Condition.{reaches_nodes}
+use Rattle.row_rules.specs.Rows.{rows_in, rows_known}
 use Rattle.dep_closure.specs.PendingSet.{HasOldForms, IsPendingOf, LeavesRows, is_among, is_named, size}
 use Rattle.geom_workers.specs.Keys.{keys_of}
 use Rattle.store_maps.specs.Append.{MayKeep}

@@ -24,8 +24,8 @@ use Rattle.object_fold.specs.Change.{IsChange, IsOfKind}
 use Rattle.object_fold.specs.Listing.{listers}
 use Rattle.object_fold.proofs.FoldLaws.{get-untouched}
 use Rattle.object_fold.proofs.Listers.{has-ids_of, kind_same}
-use Rattle.row_map.specs.Condition.{reaches_nodes}
-use Rattle.row_map.specs.Wanted.{may_have_rows}
+use Rattle.row_rules.specs.Condition.{reaches_nodes}
+use Rattle.row_rules.specs.Wanted.{may_have_rows}
 use Rattle.dep_closure.specs.PendingSet.{IsPendingOf, is_moved, is_named, is_pending_node, is_pending_relation, is_pending_way}
 use Rattle.dep_closure.specs.PendingSet.{is_reselected, moves, ways_in}
 use Rattle.dep_closure.specs.Questions.{of_all, of_entry, of_member, of_members, of_nodes, of_ways}

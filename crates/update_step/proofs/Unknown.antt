@@ -24,8 +24,8 @@ use Rattle.style_read.specs.declared.style.TableDef.{TableDef}
 use Rattle.style_read.specs.Style.{StyleOf}
 use Rattle.value_bytes.specs.declared.nodes.NodeRecord.{NodeRecord}
 use Rattle.object_fold.proofs.FoldLaws.{Untouched, get-untouched}
-use Rattle.row_map.specs.Condition.{reaches_nodes}
-use Rattle.row_map.specs.Rows.{rows_in}
+use Rattle.row_rules.specs.Condition.{reaches_nodes}
+use Rattle.row_rules.specs.Rows.{rows_in}
 use Rattle.dep_closure.specs.PendingSet.{IsPendingOf, LeavesRows, is_named}
 use Rattle.geom_workers.specs.Keys.{keys_of}
 use Rattle.store_maps.specs.Append.{MayKeep, appended, set_all_rows}

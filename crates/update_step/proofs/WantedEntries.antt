@@ -18,7 +18,7 @@ use Rattle.osm_base.proofs.KeyLaws.{key_cmp-IsAntisymmetric}
 use Rattle.style_read.specs.Style.{StyleOf}
 use Rattle.object_fold.specs.Change.{Follows, IsChange, RiseFrom}
 use Rattle.object_fold.proofs.FoldLaws.{Untouched, get-untouched}
-use Rattle.row_map.specs.Wanted.{may_have_rows}
+use Rattle.row_rules.specs.Wanted.{may_have_rows}
 use Rattle.update_step.specs.Importing.{ids_named, keys_named, wanted_among}
 use Rattle.update_step.proofs.AfterForms.{forms-after}
 use Rattle.update_step.proofs.NamedKeys.{below_all, ids-push}

@@ -11,10 +11,10 @@ use Rattle.osm_base.specs.values.Ids.{AreRisingIds}
 use Rattle.osm_base.specs.values.Key.{KeyOf}
 use Rattle.osm_base.specs.values.KeyOrder.{key_cmp}
 use Rattle.style_read.specs.Style.{StyleOf}
-use Rattle.row_map.specs.Material.{material_of}
-use Rattle.row_map.specs.Row.{tables}
-use Rattle.row_map.specs.Rows.{rows_in}
-use Rattle.row_map.proofs.TableMap.{get-tables}
+use Rattle.row_rules.specs.Material.{material_of}
+use Rattle.row_rules.specs.Row.{tables}
+use Rattle.row_rules.specs.Rows.{rows_in}
+use Rattle.row_rules.proofs.TableMap.{get-tables}
 use Rattle.dep_closure.specs.PendingSet.{LeavesRows}
 use Rattle.geom_workers.specs.Keys.{keys_of}
 use Rattle.tile_cover.specs.Table.{BoundsOf}

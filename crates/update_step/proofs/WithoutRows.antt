@@ -25,14 +25,14 @@ use Rattle.style_read.specs.declared.style.Source.TheVariants as sources
 use Rattle.style_read.specs.declared.style.TableDef.{TableDef}
 use Rattle.style_read.specs.Style.{StyleOf}
 use Rattle.object_fold.specs.Change.{IsOfKind}
-use Rattle.row_map.specs.Condition.{reaches_nodes}
-use Rattle.row_map.specs.Material.{Material, material_of}
-use Rattle.row_map.specs.Objects.{is_of_kind}
-use Rattle.row_map.specs.Row.{cells_of, row_from, row_of, wants, with_geometry}
-use Rattle.row_map.specs.Rows.{rows_in}
-use Rattle.row_map.specs.Shape.{geometry_of}
-use Rattle.row_map.specs.Wanted.{may_have_rows}
-use Rattle.row_map.proofs.TableRows.{row_from-none}
+use Rattle.row_rules.specs.Condition.{reaches_nodes}
+use Rattle.row_rules.specs.Material.{Material, material_of}
+use Rattle.row_rules.specs.Objects.{is_of_kind}
+use Rattle.row_rules.specs.Row.{cells_of, row_from, row_of, wants, with_geometry}
+use Rattle.row_rules.specs.Rows.{rows_in}
+use Rattle.row_rules.specs.Shape.{geometry_of}
+use Rattle.row_rules.specs.Wanted.{may_have_rows}
+use Rattle.row_rules.proofs.TableRows.{row_from-none}
 use Rattle.store_maps.specs.Asked.{May, MayObject}
 use Rattle.store_maps.specs.Maps.{Maps, node_in, object_in}
 use Rattle.store_maps.specs.Named.{place_in}

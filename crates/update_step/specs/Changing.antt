@@ -11,7 +11,7 @@ use Rattle.osm_base.specs.map.Pending.{PendingOf}
 use Rattle.osm_base.specs.map.Spots.{changed_all}
 use Rattle.osm_base.specs.values.Key.{KeyOf}
 use Rattle.style_read.specs.Style.{StyleOf}
-use Rattle.row_map.specs.Row.{tables}
+use Rattle.row_rules.specs.Row.{tables}
 use Rattle.dep_closure.specs.PendingSet.{IsPendingOf, size}
 use Rattle.tile_cover.specs.Table.{BoundsOf}
 use Rattle.store_maps.specs.Append.{set_all_rows}

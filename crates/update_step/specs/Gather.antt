@@ -20,7 +20,7 @@ use Rattle.osm_base.specs.values.Key.{KeyOf, node_key, relation_key}
 use Rattle.osm_base.specs.values.KeyOrder.{key_cmp}
 use Rattle.osm_base.specs.values.Place.{PlaceOf}
 use Rattle.style_read.specs.Style.{StyleOf}
-use Rattle.row_map.specs.Wanted.{may_have_rows}
+use Rattle.row_rules.specs.Wanted.{may_have_rows}
 use Rattle.update_step.specs.Named.{named_in}
 use Rattle.update_step.specs.declared.answers.Answers.{Answers}
 pub use Rattle.update_step.specs.declared.asks.Ask.{Ask}

@@ -8,7 +8,7 @@ use Rattle.osm_base.specs.declared.values.row.TableRow.{TableRow}
 use Rattle.osm_base.specs.map.Listers.{is_kind}
 use Rattle.osm_base.specs.values.Key.{KeyOf}
 use Rattle.style_read.specs.Style.{StyleOf}
-use Rattle.row_map.specs.Wanted.{may_have_rows}
+use Rattle.row_rules.specs.Wanted.{may_have_rows}
 use Rattle.store_maps.specs.Maps.{Maps, rows_at}
 
 -- the entries whose objects a table may want: no other has rows

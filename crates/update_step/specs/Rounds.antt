@@ -10,7 +10,7 @@ use Rattle.osm_base.specs.map.Known.{Known}
 use Rattle.osm_base.specs.map.Listers.{is_kind}
 use Rattle.osm_base.specs.values.Key.{KeyOf}
 use Rattle.style_read.specs.Style.{StyleOf}
-use Rattle.row_map.specs.Wanted.{may_have_rows}
+use Rattle.row_rules.specs.Wanted.{may_have_rows}
 use Rattle.update_step.specs.Gather.{AlongWay, AroundNode, Ask, AtNode, OfKey, place_asks, relation_asks}
 
 -- a member that is a way

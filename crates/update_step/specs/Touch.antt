@@ -12,7 +12,7 @@ use Rattle.osm_base.specs.map.Objects.{ObjectSet, folded_all}
 use Rattle.osm_base.specs.values.Ids.{has}
 use Rattle.osm_base.specs.values.Key.{KeyOf, node_key, relation_key, way_key}
 use Rattle.style_read.specs.Style.{StyleOf}
-use Rattle.row_map.specs.Condition.{reaches_nodes}
+use Rattle.row_rules.specs.Condition.{reaches_nodes}
 use Rattle.dep_closure.specs.PendingSet.{is_named, is_pending_node, is_pending_relation, is_pending_way}
 use Rattle.store_maps.specs.Asked.{May, MayList, MayObject, MayRows}
 use Rattle.store_maps.specs.Maps.{block_of}

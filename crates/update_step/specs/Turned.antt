@@ -4,7 +4,7 @@ use Rattle.std.specs.Prelude.{◌≡◌, ℕ, Bool, not, ◌||◌, List, length,
 use Rattle.std.specs.List.{list_any, range_with_len}
 use Rattle.osm_base.specs.declared.values.row.TableRow.{TableRow}
 use Rattle.osm_base.specs.values.Key.{KeyOf}
-use Rattle.row_map.specs.Rows.{rows_below}
+use Rattle.row_rules.specs.Rows.{rows_below}
 use Rattle.style_read.specs.Style.{StyleOf}
 use Rattle.tile_cover.specs.Table.{BoundsOf}
 use Rattle.store_maps.specs.Delta.{row_in}

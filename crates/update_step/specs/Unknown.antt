@@ -12,8 +12,8 @@ use Rattle.osm_base.specs.map.Pending.{PendingOf}
 use Rattle.osm_base.specs.values.Key.{KeyOf, node_key}
 use Rattle.style_read.specs.Style.{StyleOf}
 use Rattle.value_bytes.specs.declared.nodes.NodeRecord.{NodeRecord}
-use Rattle.row_map.specs.Condition.{reaches_nodes}
-use Rattle.row_map.specs.Rows.{rows_in}
+use Rattle.row_rules.specs.Condition.{reaches_nodes}
+use Rattle.row_rules.specs.Rows.{rows_in}
 use Rattle.dep_closure.specs.PendingSet.{IsPendingOf, size}
 use Rattle.store_maps.specs.Maps.{Maps, rows_at, unless_empty}
 use Rattle.store_maps.specs.Named.{place_in}

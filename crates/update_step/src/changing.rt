@@ -1,7 +1,7 @@
 //! A change of a map, whole.
 ghost use Rattle.std.specs.Prelude.{◌≡◌, ◌≤◌, false};
 ghost use Rattle.osm_base.specs.map.Objects.{ObjectSet};
-ghost use Rattle.row_map.specs.Condition.{reaches_nodes};
+ghost use Rattle.row_rules.specs.Condition.{reaches_nodes};
 ghost use Rattle.dep_closure.specs.PendingSet.{AreTooMany, IsPendingOf};
 ghost use Rattle.tile_cover.specs.Runs.{has};
 ghost use Rattle.store_maps.specs.Asked.{May};

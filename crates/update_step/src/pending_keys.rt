@@ -1,7 +1,7 @@
 //! The keys whose rows a change may change.
 ghost use Rattle.std.specs.Prelude.{◌≡◌, ◌≤◌, length, false, IfOk, IfErr, OnOk};
 ghost use Rattle.osm_base.specs.map.Objects.{ObjectSet, folded_all};
-ghost use Rattle.row_map.specs.Condition.{reaches_nodes};
+ghost use Rattle.row_rules.specs.Condition.{reaches_nodes};
 ghost use Rattle.dep_closure.specs.PendingSet.{AreTooMany, HasOldForms, IsPendingOf, LeavesRows, size};
 ghost use Rattle.geom_workers.specs.Keys.{keys_of};
 ghost use Rattle.geom_workers.specs.declared.keys.TheConstants.{MAX_KEYS};

@@ -3,7 +3,7 @@ ghost use Rattle.std.specs.Prelude.{◌≡◌, List, length, map, false, IfErr};
 ghost use Rattle.std.specs.List.{AllByRecursion};
 ghost use Rattle.osm_base.specs.declared.values.row.TableRow.{TableRow};
 ghost use Rattle.osm_base.specs.values.Key.{KeyOf};
-ghost use Rattle.row_map.specs.Condition.{reaches_nodes};
+ghost use Rattle.row_rules.specs.Condition.{reaches_nodes};
 ghost use Rattle.geom_workers.specs.Keys.{keys_of};
 ghost use Rattle.tile_cover.specs.Runs.{has};
 ghost use Rattle.store_maps.specs.Append.{MayKeep};

@@ -12,7 +12,7 @@ use Rattle.delta_feed.specs.Text.{delta_text, full_text}
 use Rattle.delta_feed.specs.Writing.{IsUnwritten}
 use Rattle.delta_feed.specs.declared.fault.FeedWrite.{FeedWrite}
 use Rattle.delta_feed.specs.declared.fault.FeedWrite.TheVariants as writing
-use Rattle.row_map.specs.Row.{tables}
+use Rattle.row_rules.specs.Row.{tables}
 use Rattle.tile_cover.specs.Table.{BoundsOf}
 use Rattle.update_flow.specs.AtRest.{HasFlowCause}
 use Rattle.update_flow.specs.Changes.{IsDeltaOf}

@@ -5,7 +5,7 @@ use Rattle.std.proofs.lemmas.List.{take_all}
 use native.Mathlib.Decide.{ℕ_discrete}
 use Rattle.osm_base.specs.declared.values.row.Delta.{Delta}
 use Rattle.osm_base.specs.map.Spots.{TableMap, changed_all}
-use Rattle.row_map.specs.Row.{tables}
+use Rattle.row_rules.specs.Row.{tables}
 use Rattle.style_read.specs.Style.{StyleOf}
 use Rattle.table_versions.specs.Fronts.{FrontOf}
 use Rattle.table_versions.specs.Versions.{after, applied, tables_of, version_of}

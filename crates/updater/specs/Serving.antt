@@ -6,7 +6,7 @@ use Rattle.outside.specs.Sink.{SinkView}
 use Rattle.osm_base.specs.declared.values.row.Delta.{Delta}
 use Rattle.osm_base.specs.map.Spots.{TableMap, changed_all}
 use Rattle.map_query.specs.declared.query.Query.{Query}
-use Rattle.row_map.specs.Row.{tables}
+use Rattle.row_rules.specs.Row.{tables}
 use Rattle.style_read.specs.Style.{StyleOf}
 use Rattle.tile_cover.specs.Table.{BoundsOf}
 use Rattle.table_versions.specs.Fronts.{FrontOf}

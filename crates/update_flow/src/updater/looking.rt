@@ -1,7 +1,7 @@
 //! An open store is looked at.
 ghost use Rattle.std.specs.Prelude.{◌≡◌, ℕ, None, IfOk};
 ghost use Rattle.std.specs.Result.{result_err};
-ghost use Rattle.row_map.specs.Row.{tables};
+ghost use Rattle.row_rules.specs.Row.{tables};
 ghost use Rattle.tile_cover.specs.Runs.{has};
 ghost use Rattle.update_flow.specs.Changes.{only_table};
 ghost use Rattle.update_flow.specs.Handle.{IsOpen, Looks};

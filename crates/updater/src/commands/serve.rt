@@ -1,7 +1,7 @@
 //! `serve STORE BOUNDS QUERIES CHANGE*`: change files, one after another, while readers are answered.
 ghost use Rattle.std.specs.Prelude.{◌≡◌, []};
 ghost use Rattle.std.specs.Result.{result_err};
-ghost use Rattle.row_map.specs.Row.{tables as tables_in};
+ghost use Rattle.row_rules.specs.Row.{tables as tables_in};
 ghost use Rattle.update_flow.specs.Handle.{view_of};
 ghost use Rattle.update_flow.specs.State.{Holding, State, imported};
 ghost use Rattle.update_flow.specs.Updater.{handle_of};

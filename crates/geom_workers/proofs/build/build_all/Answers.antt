@@ -3,7 +3,7 @@ use Rattle.std.specs.List.{range_with_len}
 use Rattle.osm_base.specs.values.Key.{node_key}
 use Rattle.geom_workers.specs.Builds.{rows_at}
 use Rattle.geom_workers.specs.Keys.{keys_of}
-use Rattle.row_map.specs.Rows.{rows_known}
+use Rattle.row_rules.specs.Rows.{rows_known}
 use Rattle.geom_workers.proofs.Agreeing.{agree}
 use Rattle.geom_workers.proofs.Keyed.{by_number}
 use Rattle.geom_workers.proofs.build.build_all.Goals as goal

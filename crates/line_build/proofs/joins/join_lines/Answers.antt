@@ -2,7 +2,7 @@ use Rattle.std.proofs.Common.{◌∙◌, ◌++◌, sym, ap}
 use Rattle.std.proofs.lemmas.List.{append-nil}
 use Rattle.piece_ends.specs.Walk.{lines_by}
 use Rattle.piece_ends.proofs.Lines.{lines_by-more, lines_by-fewer, lines_by-none}
-use Rattle.line_build.specs.Joins.{line_begun}
+use Rattle.piece_ends.specs.Joins.{line_begun}
 use Rattle.line_build.proofs.Begun.{line_begun-Grows}
 use Rattle.line_build.proofs.joins.join_lines.Goals as goal
 

@@ -1,6 +1,6 @@
 use Rattle.std.proofs.Common.{◌≡◌, ◌++◌, length}
 use Rattle.piece_ends.specs.Walk.{lines_by}
-use Rattle.line_build.specs.Joins.{joined, line_begun}
+use Rattle.piece_ends.specs.Joins.{joined, line_begun}
 use Rattle.line_build.proofs.joins.join_lines.Given as goal
 
 -- the lines so far, and then those of the pieces that are left, are all of them

@@ -6,7 +6,7 @@ use Rattle.std.specs.List.{list_all}
 use Rattle.piece_ends.specs.Pieces.{Line}
 use Rattle.piece_ends.specs.Walk.{lines_by}
 use Rattle.piece_ends.proofs.Lines.{lines_by-more, lines_by-fewer, lines_by-none}
-use Rattle.ring_build.specs.Rings.{ring_begun, has_four_points}
+use Rattle.piece_ends.specs.Rings.{ring_begun, has_four_points}
 use Rattle.osm_base.specs.values.Line.{IsRing}
 use Rattle.ring_build.proofs.Closed.{ring_begun-Grows, AreAlike, AreAlike-closed, odd-open, rings-not, rings-all, four-more}
 use Rattle.ring_build.proofs.rings.rings_of.Goals as goal

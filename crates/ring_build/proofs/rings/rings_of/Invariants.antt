@@ -2,7 +2,7 @@ use Rattle.std.proofs.Common.{◌≡◌, ◌++◌, true, length}
 use Rattle.std.specs.Prelude.{All}
 use Rattle.std.specs.List.{list_all}
 use Rattle.piece_ends.specs.Walk.{lines_by}
-use Rattle.ring_build.specs.Rings.{ring_begun, has_four_points}
+use Rattle.piece_ends.specs.Rings.{ring_begun, has_four_points}
 use Rattle.osm_base.specs.values.Line.{IsRing}
 use Rattle.ring_build.proofs.Closed.{AreAlike}
 use Rattle.ring_build.proofs.rings.rings_of.Given as goal

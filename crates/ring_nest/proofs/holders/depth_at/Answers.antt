@@ -1,8 +1,8 @@
 use Rattle.std.proofs.Common.{arith, ◌≡◌, ◌∙◌, ap, length}
 use Rattle.std.proofs.Math.Logic.{∥∥₁_elim}
 use Rattle.std.proofs.Props.{props}
+use Rattle.lanes_geo.specs.Nesting.{depth, ring_at}
 use Rattle.ring_nest.specs.Holders.{numbers_of}
-use Rattle.ring_nest.specs.Nesting.{depth, ring_at}
 use Rattle.ring_nest.proofs.Owned.{depth_is}
 use Rattle.ring_nest.proofs.holders.depth_at.Goals as goal
 

@@ -1,5 +1,5 @@
 use Rattle.std.proofs.Common.{◌≡◌, ◌≤◌, ◌-◌, length, map, take}
-use Rattle.ring_nest.specs.Nesting.{depth}
+use Rattle.lanes_geo.specs.Nesting.{depth}
 use Rattle.ring_nest.proofs.holders.depths_of.Given as goal
 
 -- the depths of the rings so far

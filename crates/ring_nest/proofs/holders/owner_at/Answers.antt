@@ -1,5 +1,5 @@
 use Rattle.std.proofs.lemmas.List.{length-map}
-use Rattle.ring_nest.specs.Nesting.{depth, ring_at}
+use Rattle.lanes_geo.specs.Nesting.{depth, ring_at}
 use Rattle.ring_nest.proofs.Filled.{inner_owner_is}
 use Rattle.ring_nest.proofs.Owned.{holders_below, kept_is}
 use Rattle.ring_nest.proofs.holders.owner_at.Goals as goal

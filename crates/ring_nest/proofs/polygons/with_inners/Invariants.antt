@@ -1,6 +1,6 @@
 use Rattle.std.proofs.Common.{◌≡◌, ◌≤◌, ◌-◌, true, length, take}
 use Rattle.std.specs.List.{list_all}
-use Rattle.ring_nest.specs.Nesting.{has_place}
+use Rattle.lanes_geo.specs.Nesting.{has_place}
 use Rattle.ring_nest.specs.Polygons.{polygons_from}
 use Rattle.ring_nest.proofs.polygons.with_inners.Given as goal
 

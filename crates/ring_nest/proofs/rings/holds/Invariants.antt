@@ -1,5 +1,5 @@
 use Rattle.std.proofs.Common.{◌≡◌, drop}
-use Rattle.ring_nest.specs.Nesting.{first_off}
+use Rattle.lanes_geo.specs.Nesting.{first_off}
 use Rattle.ring_nest.proofs.rings.holds.Given as goal
 
 -- it is told by what is left

@@ -1,5 +1,5 @@
 use Rattle.std.proofs.Common.{◌≡◌, ◌≤◌, ◌-◌, length, drop}
-use Rattle.ring_nest.specs.Nesting.{lies_on}
+use Rattle.lanes_geo.specs.Nesting.{lies_on}
 use Rattle.ring_nest.proofs.rings.lies_on.Given as goal
 
 -- it is told by what is left

@@ -1,5 +1,5 @@
 use Rattle.std.proofs.Common.{arith, rules, ◌≡◌, ◌∙◌, ◌-◌, false, true, sym}
-use Rattle.ring_nest.specs.Nesting.{ring_at}
+use Rattle.lanes_geo.specs.Nesting.{ring_at}
 use Rattle.ring_nest.specs.Opened.{crossings_in}
 use Rattle.ring_nest.specs.Told.{is_marked, near, westward}
 use Rattle.ring_nest.proofs.Near.{marked_at, near_part, none_near, own_near, ring_with}

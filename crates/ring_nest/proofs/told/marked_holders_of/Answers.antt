@@ -1,6 +1,6 @@
 use Rattle.std.proofs.Common.{rules, arith, ◌≡◌, ◌∙◌, ◌+◌, ◌∷◌, false, true, length, refl, sym, ◌<◌}
 use Rattle.lanes_geo.specs.Crossing.{odd}
-use Rattle.ring_nest.specs.Nesting.{ring_at}
+use Rattle.lanes_geo.specs.Nesting.{ring_at}
 use Rattle.ring_nest.specs.Told.{Tells, is_marked, marked_holders}
 use Rattle.ring_nest.proofs.Near.{begins, behind_first, mark_with, ring_with, told_by}
 use Rattle.ring_nest.proofs.told.marked_holders_of.Goals as goal

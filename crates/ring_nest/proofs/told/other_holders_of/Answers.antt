@@ -1,6 +1,6 @@
 use Rattle.std.proofs.Common.{◌≡◌, ◌∙◌, ap, arith, length, refl}
+use Rattle.lanes_geo.specs.Nesting.{ring_at}
 use Rattle.ring_nest.specs.Holders.{numbers_of}
-use Rattle.ring_nest.specs.Nesting.{ring_at}
 use Rattle.ring_nest.specs.Told.{other_holders}
 use Rattle.ring_nest.proofs.Marked.{others_are}
 use Rattle.ring_nest.proofs.told.other_holders_of.Goals as goal

@@ -1,5 +1,5 @@
 use Rattle.std.proofs.Common.{rules, arith, ◌≡◌, ◌+◌}
-use Rattle.ring_nest.specs.Nesting.{depth, ring_at}
+use Rattle.lanes_geo.specs.Nesting.{depth, ring_at}
 use Rattle.ring_nest.proofs.Marked.{depth_of}
 use Rattle.ring_nest.proofs.told.told_depth.Goals as goal
 

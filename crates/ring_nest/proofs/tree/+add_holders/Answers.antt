@@ -1,7 +1,7 @@
 use Rattle.std.proofs.Common.{◌≡◌, ◌∙◌, [], false, map, sym}
 use Rattle.std.specs.List.{filter}
 use Rattle.std.proofs.lemmas.List.{append-nil}
-use Rattle.ring_nest.specs.Nesting.{ring_at}
+use Rattle.lanes_geo.specs.Nesting.{ring_at}
 use Rattle.ring_nest.specs.Around.{around, may_hold}
 use Rattle.ring_nest.specs.Holders.{box_of_tree, is_holder, numbers_of}
 use Rattle.ring_nest.proofs.Walked.{boxed_at, none_in, ring_is, tree_covers}

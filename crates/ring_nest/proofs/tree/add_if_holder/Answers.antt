@@ -1,6 +1,6 @@
 use Rattle.std.proofs.Common.{◌≡◌, ◌∙◌, sym, false}
 use Rattle.std.proofs.lemmas.List.{append-nil}
-use Rattle.ring_nest.specs.Nesting.{ring_at}
+use Rattle.lanes_geo.specs.Nesting.{ring_at}
 use Rattle.ring_nest.specs.Holders.{is_holder}
 use Rattle.ring_nest.proofs.Held.{not_held}
 use Rattle.ring_nest.proofs.Itself.{not_itself}

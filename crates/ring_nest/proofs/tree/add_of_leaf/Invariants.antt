@@ -1,6 +1,6 @@
 use Rattle.std.proofs.Common.{◌≡◌, ◌≤◌, ◌-◌, ◌++◌, length, take}
 use Rattle.std.specs.List.{filter}
-use Rattle.ring_nest.specs.Nesting.{ring_at}
+use Rattle.lanes_geo.specs.Nesting.{ring_at}
 use Rattle.ring_nest.specs.Holders.{is_holder}
 use Rattle.ring_nest.proofs.tree.add_of_leaf.Given as goal
 

@@ -1,7 +1,7 @@
 use Rattle.std.proofs.Common.{◌∙◌, ap, codes, sym}
 use Rattle.std.specs.Prelude.{◌||◌}
 use Rattle.std.specs.Str.{chars}
-use Rattle.row_map.specs.Condition.{has_value}
+use Rattle.row_rules.specs.Condition.{has_value}
 use Rattle.row_map.proofs.Literals.{chars-type, chars-multipolygon, chars-boundary}
 use Rattle.row_map.proofs.area.is_area.Goals as goal
 

@@ -1,6 +1,6 @@
 use Rattle.std.proofs.Common.{◌≡◌, ◌++◌, drop, map}
-use Rattle.row_map.specs.Cell.{cell_of}
-use Rattle.row_map.specs.Material.{selecting_among}
+use Rattle.row_rules.specs.Cell.{cell_of}
+use Rattle.row_rules.specs.Material.{selecting_among}
 use Rattle.row_map.proofs.cell.cells_of.Given as goal
 
 -- the cells so far, and then those of the columns that are left

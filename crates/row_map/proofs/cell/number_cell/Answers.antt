@@ -3,7 +3,7 @@ use Rattle.std.specs.Option.{option_map_or}
 use Rattle.std.proofs.Math.Facts.{to_z-of_z}
 use Rattle.std.proofs.lemmas.Str.{encodes-chars}
 use Rattle.osm_base.specs.declared.values.row.Cell.TheVariants as cells
-use Rattle.row_map.specs.Cell.{number_of}
+use Rattle.row_rules.specs.Cell.{number_of}
 use Rattle.row_map.proofs.cell.number_cell.Goals as goal
 
 pub returns-in-Some : goal.returns-in-Some

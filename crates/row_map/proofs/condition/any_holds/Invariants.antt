@@ -1,7 +1,7 @@
 use Rattle.std.proofs.Common.{◌≡◌, drop}
 use Rattle.std.specs.List.{list_any}
-use Rattle.row_map.specs.Condition.{holds}
-use Rattle.row_map.specs.Material.{is_selected, selecting_among}
+use Rattle.row_rules.specs.Condition.{holds}
+use Rattle.row_rules.specs.Material.{is_selected, selecting_among}
 use Rattle.row_map.proofs.condition.any_holds.Given as goal
 
 -- whether one of those that are left holds decides

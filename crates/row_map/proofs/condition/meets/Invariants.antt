@@ -1,6 +1,6 @@
 use Rattle.std.proofs.Common.{◌≡◌, false, drop}
 use Rattle.std.specs.List.{list_all}
-use Rattle.row_map.specs.Condition.{holds}
+use Rattle.row_rules.specs.Condition.{holds}
 use Rattle.row_map.proofs.condition.meets.Given as goal
 
 -- whether those that are left hold decides

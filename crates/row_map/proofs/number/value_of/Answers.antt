@@ -1,5 +1,5 @@
 use Rattle.std.proofs.Common.{◌≡◌, ◌+◌, true, arith, rules}
-use Rattle.row_map.specs.Cell.{are_digits}
+use Rattle.row_rules.specs.Cell.{are_digits}
 use Rattle.row_map.proofs.Digits.{AreDigits-test}
 use Rattle.row_map.proofs.number.value_of.Goals as goal
 

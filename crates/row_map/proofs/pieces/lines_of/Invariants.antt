@@ -1,5 +1,5 @@
 use Rattle.std.proofs.Common.{◌≡◌, ◌++◌, drop}
-use Rattle.row_map.specs.Shape.{lines_along}
+use Rattle.row_rules.specs.Shape.{lines_along}
 use Rattle.row_map.proofs.pieces.lines_of.Given as goal
 
 -- the lines so far, and then those of the ways that are left

@@ -1,6 +1,6 @@
 use Rattle.std.proofs.Common.{◌≡◌, drop, fold}
+use Rattle.row_rules.specs.Shape.{with_way, ways_among}
 use Rattle.row_map.specs.Seen.{AreSeen}
-use Rattle.row_map.specs.Shape.{with_way, ways_among}
 use Rattle.row_map.proofs.pieces.ways_among.Given as goal
 
 -- the ways so far, and then what the members that are left make of them

@@ -1,7 +1,7 @@
 use Rattle.std.proofs.Common.{◌∙◌, ap}
 use Rattle.std.specs.Option.{option_and_then}
-use Rattle.row_map.specs.Material.{material_among, relations_with}
-use Rattle.row_map.specs.Row.{row_of}
+use Rattle.row_rules.specs.Material.{material_among, relations_with}
+use Rattle.row_rules.specs.Row.{row_of}
 use Rattle.row_map.proofs.row.row_at.Goals as goal
 
 pub returns-in_ok-row_in-in-Some : goal.returns-in_ok-row_in-in-Some

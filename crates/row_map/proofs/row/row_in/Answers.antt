@@ -1,11 +1,11 @@
 use Rattle.std.proofs.Common.{sym, ◌∙◌}
 use Rattle.std.specs.Prelude.{◌&&◌}
-use Rattle.row_map.specs.Material.{material_among}
-use Rattle.row_map.specs.Objects.{is_of_kind}
-use Rattle.row_map.specs.Row.{cells_of, wants}
-use Rattle.row_map.specs.Shape.{geometry_of}
-use Rattle.row_map.proofs.NoRow.{no_row}
-use Rattle.row_map.proofs.Unwanted.{shapeless}
+use Rattle.row_rules.specs.Material.{material_among}
+use Rattle.row_rules.specs.Objects.{is_of_kind}
+use Rattle.row_rules.specs.Row.{cells_of, wants}
+use Rattle.row_rules.specs.Shape.{geometry_of}
+use Rattle.row_rules.proofs.NoRow.{no_row}
+use Rattle.row_rules.proofs.Unwanted.{shapeless}
 use Rattle.row_map.proofs.row.row_in.Goals as goal
 
 pub returns-then-not-may_have_geometry : goal.returns-then-not-may_have_geometry

@@ -1,5 +1,5 @@
 use Rattle.std.proofs.Common.{◌∙◌}
-use Rattle.row_map.proofs.Locality.{row_from-suffices}
+use Rattle.row_rules.proofs.Locality.{row_from-suffices}
 use Rattle.row_map.proofs.row.row_of.Goals as goal
 
 pub returns-clause-row : goal.returns-clause-row

@@ -1,8 +1,8 @@
 use Rattle.std.proofs.Common.{◌∙◌, ap, sym}
 use Rattle.style_read.specs.Style.{StyleOf}
-use Rattle.row_map.specs.Material.{material_among}
-use Rattle.row_map.specs.Rows.{rows_from}
-use Rattle.row_map.proofs.TableRows.{rows_known-none, rows_known-some}
+use Rattle.row_rules.specs.Material.{material_among}
+use Rattle.row_rules.specs.Rows.{rows_from}
+use Rattle.row_rules.proofs.TableRows.{rows_known-none, rows_known-some}
 use Rattle.row_map.proofs.rows.known_rows.Goals as goal
 
 pub returns-in-None : goal.returns-in-None

@@ -1,6 +1,6 @@
 use Rattle.std.proofs.Common.{◌≡◌, ◌+◌, arith}
-use Rattle.row_map.specs.Material.{material_among}
-use Rattle.row_map.proofs.TableRows.{drop_item, rows-more}
+use Rattle.row_rules.specs.Material.{material_among}
+use Rattle.row_rules.proofs.TableRows.{drop_item, rows-more}
 use Rattle.row_map.proofs.rows.rows_among.Goals as goal
 
 pub loop-table-preserved : goal.loop-table-preserved

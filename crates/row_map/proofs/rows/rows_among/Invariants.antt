@@ -1,6 +1,6 @@
 use Rattle.std.proofs.Common.{◌≡◌, ◌++◌, drop}
-use Rattle.row_map.specs.Material.{material_among}
-use Rattle.row_map.specs.Rows.{rows_from}
+use Rattle.row_rules.specs.Material.{material_among}
+use Rattle.row_rules.specs.Rows.{rows_from}
 use Rattle.row_map.proofs.rows.rows_among.Given as goal
 
 -- the rows so far, and then those of the tables that are left

@@ -1,5 +1,5 @@
 use Rattle.std.proofs.Common.{◌∙◌}
-use Rattle.row_map.proofs.TableRows.{rows_known-suffices}
+use Rattle.row_rules.proofs.TableRows.{rows_known-suffices}
 use Rattle.row_map.proofs.rows.rows_of.Goals as goal
 
 pub returns-clause-rows : goal.returns-clause-rows

@@ -4,7 +4,7 @@ use Rattle.std.specs.Str.{IsUtf8}
 use Rattle.json.specs.Print.{print}
 use Rattle.serde_json.specs.Data.{object}
 use Rattle.serde_json.proofs.Texts.{print-outline}
-use Rattle.row_map.specs.Cell.{members_of}
+use Rattle.row_rules.specs.Cell.{members_of}
 use Rattle.row_map.proofs.TagTokens.{written-more, written-all}
 use Rattle.row_map.proofs.tags_text.tags_text.Goals as goal
 

@@ -3,7 +3,7 @@ use Rattle.std.specs.List.{flat_map}
 use Rattle.std.specs.Str.{chars}
 use Rattle.std.specs.String.{string_bytes}
 use Rattle.std.proofs.lemmas.List.{append-nil}
-use Rattle.row_map.specs.declared.values.TheConstants.{COMMA}
+use Rattle.row_rules.specs.declared.cell.TheConstants.{COMMA}
 use Rattle.row_map.proofs.Lists.{drop_past, join-commas}
 use Rattle.row_map.proofs.values.joined.Goals as goal
 

@@ -1,7 +1,7 @@
 use Rattle.std.proofs.Common.{◌≡◌, ◌++◌, ◌∷◌, drop}
 use Rattle.std.specs.List.{flat_map}
 use Rattle.std.specs.String.{string_bytes}
-use Rattle.row_map.specs.declared.values.TheConstants.{COMMA}
+use Rattle.row_rules.specs.declared.cell.TheConstants.{COMMA}
 use Rattle.row_map.proofs.values.joined.Given as goal
 
 -- what is joined, and then the values that are left, each behind a comma

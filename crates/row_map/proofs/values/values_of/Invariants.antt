@@ -1,7 +1,7 @@
 use Rattle.std.proofs.Common.{◌≡◌, ◌++◌, drop, map}
 use Rattle.std.specs.Str.{chars}
-use Rattle.row_map.specs.Cell.{values_of}
-use Rattle.row_map.specs.Material.{selecting_among}
+use Rattle.row_rules.specs.Cell.{values_of}
+use Rattle.row_rules.specs.Material.{selecting_among}
 use Rattle.row_map.proofs.values.values_of.Given as goal
 
 -- the values so far, and then those of the relations that are left

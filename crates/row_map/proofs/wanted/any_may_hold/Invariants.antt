@@ -1,6 +1,6 @@
 use Rattle.std.proofs.Common.{◌≡◌, true, drop}
 use Rattle.std.specs.List.{list_any}
-use Rattle.row_map.specs.Condition.{holds}
+use Rattle.row_rules.specs.Condition.{holds}
 use Rattle.row_map.proofs.wanted.any_may_hold.Given as goal
 
 -- whether one of those that are left may hold decides

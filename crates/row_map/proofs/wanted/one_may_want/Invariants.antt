@@ -1,5 +1,5 @@
 use Rattle.std.proofs.Common.{◌≡◌, drop}
-use Rattle.row_map.specs.Wanted.{one_may_want}
+use Rattle.row_rules.specs.Wanted.{one_may_want}
 use Rattle.row_map.proofs.wanted.one_may_want.Given as goal
 
 -- whether one of those that are left may want it decides

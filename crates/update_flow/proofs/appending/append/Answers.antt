@@ -2,7 +2,7 @@
 use Rattle.std.proofs.Common.{◌∙◌, List, Some, ap, arith, sym, subst}
 use Rattle.osm_base.specs.map.Objects.{folded_all}
 use Rattle.dep_closure.specs.PendingSet.{AreTooMany, IsPendingOf}
-use Rattle.row_map.specs.Row.{tables}
+use Rattle.row_rules.specs.Row.{tables}
 use Rattle.style_read.specs.Style.{StyleOf}
 use Rattle.osm_base.specs.declared.values.object.Entry.{Entry}
 use Rattle.tile_cover.specs.Runs.{IsTileSet}

@@ -7,7 +7,7 @@ use Rattle.bucket_store.specs.Image.{Image, RestsAt}
 use Rattle.bucket_store.specs.Opening.{Fits, FitsPages}
 use Rattle.bucket_store.specs.Transaction.{IsOpenStore, chains_of}
 use Rattle.bucket_store.specs.declared.resting.Resting.{Resting}
-use Rattle.row_map.specs.Condition.{reaches_nodes}
+use Rattle.row_rules.specs.Condition.{reaches_nodes}
 use Rattle.update_flow.specs.OpeningReads.{ReadsStyle}
 use Rattle.update_flow.specs.State.{was_old}
 use Rattle.update_flow.specs.BadPage.{IsUnread, Reaches, Unread, WritesStyle}

@@ -1,7 +1,7 @@
 use Rattle.std.proofs.Common.{◌++◌, List, Option, ap, sym, ◌∙◌}
 use Rattle.std.proofs.lemmas.List.{append-nil}
 use Rattle.osm_base.specs.declared.values.object.Object.{Object}
-use Rattle.row_map.specs.Wanted.{may_have_rows}
+use Rattle.row_rules.specs.Wanted.{may_have_rows}
 use Rattle.update_step.specs.Gather.{Ask}
 use Rattle.update_step.specs.Rounds.{parts_asked}
 use Rattle.update_step.proofs.asks.add_parts_of.Goals as goal

@@ -8,9 +8,9 @@ use Rattle.store_maps.proofs.IndexLaws.{ways_are_there}
 use Rattle.update_step.specs.Old.{with_old}
 use Rattle.osm_base.specs.declared.values.row.RowChange.{RowChange}
 use Rattle.osm_base.specs.map.Objects.{ObjectSet, folded_all}
-use Rattle.row_map.specs.Condition.{reaches_nodes}
-use Rattle.row_map.specs.Row.{tables}
-use Rattle.row_map.specs.Rows.{rows_in}
+use Rattle.row_rules.specs.Condition.{reaches_nodes}
+use Rattle.row_rules.specs.Row.{tables}
+use Rattle.row_rules.specs.Rows.{rows_in}
 use Rattle.geom_workers.specs.Keys.{keys_of}
 use Rattle.tile_cover.specs.Runs.{has}
 use Rattle.store_maps.specs.Append.{appended}

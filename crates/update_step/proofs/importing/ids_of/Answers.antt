@@ -7,7 +7,7 @@ use Rattle.osm_base.specs.map.Listers.{is_kind}
 use Rattle.osm_base.specs.values.Ids.{IsRising}
 use Rattle.osm_base.specs.values.Key.{IsId}
 use Rattle.object_fold.specs.Change.{IsChange}
-use Rattle.row_map.specs.Wanted.{may_have_rows}
+use Rattle.row_rules.specs.Wanted.{may_have_rows}
 use Rattle.update_step.specs.Importing.{ids_named, wanted_among}
 use Rattle.update_step.proofs.NamedKeys.{ids-rise}
 use Rattle.update_step.proofs.WantedEntries.{wanted-more, wanted-rise}

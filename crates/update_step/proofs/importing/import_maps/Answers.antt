@@ -5,7 +5,7 @@ use Rattle.osm_base.specs.declared.values.row.TableRow.{TableRow}
 use Rattle.osm_base.specs.map.Objects.{folded_all}
 use Rattle.osm_base.specs.values.Key.{KeyOf}
 use Rattle.style_read.specs.Style.{StyleOf}
-use Rattle.row_map.specs.Rows.{rows_in}
+use Rattle.row_rules.specs.Rows.{rows_in}
 use Rattle.geom_workers.specs.Keys.{keys_of}
 use Rattle.store_maps.specs.Append.{MayKeep, appended}
 use Rattle.store_maps.specs.Maps.{Maps, empty_maps}

@@ -4,7 +4,7 @@ use Rattle.std.specs.List.{AllByRecursion}
 use Rattle.osm_base.specs.map.Listers.{known_of}
 use Rattle.osm_base.specs.map.Objects.{ObjectSet, folded_all}
 use Rattle.osm_base.specs.values.Key.{KeyOf}
-use Rattle.row_map.specs.Rows.{rows_in}
+use Rattle.row_rules.specs.Rows.{rows_in}
 use Rattle.geom_workers.specs.Keys.{keys_of}
 use Rattle.store_maps.specs.Append.{MayKeep}
 use Rattle.update_step.proofs.Imported.{known-rows, may-keep-all}

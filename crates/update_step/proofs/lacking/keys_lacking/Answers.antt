@@ -2,7 +2,7 @@ use Rattle.std.proofs.Common.{rules, arith, ◌≡◌, [], ◌∷◌, ◌++◌, 
 use Rattle.std.proofs.lemmas.Grind.{common_steps}
 use Rattle.osm_base.specs.declared.values.object.Entry.{Entry}
 use Rattle.osm_base.specs.values.Key.{KeyOf}
-use Rattle.row_map.specs.Rows.{rows_in}
+use Rattle.row_rules.specs.Rows.{rows_in}
 use Rattle.store_maps.specs.Asked.{May, MayObject}
 use Rattle.update_step.specs.Lacking.{AreLacking}
 use Rattle.update_step.specs.Touch.{MayEntries}

@@ -2,7 +2,7 @@ use Rattle.std.proofs.Common.{rules, ◌≡◌, not, is_some, sym, ap, ◌∙◌
 use Rattle.osm_base.specs.declared.values.key.Kind.TheVariants as kinds
 use Rattle.osm_base.specs.map.Listers.{is_kind}
 use Rattle.osm_base.specs.values.Key.{KeyOf}
-use Rattle.row_map.specs.Wanted.{may_have_rows}
+use Rattle.row_rules.specs.Wanted.{may_have_rows}
 use Rattle.store_maps.specs.Maps.{object_in}
 use Rattle.update_step.proofs.Unknown.{known-unplaced}
 use Rattle.update_step.proofs.WithoutRows.{known-other, lacks-unwanted, not-true}

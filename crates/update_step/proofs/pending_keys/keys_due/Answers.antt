@@ -4,7 +4,7 @@ use Rattle.osm_base.specs.declared.values.object.Entry.{Entry}
 use Rattle.osm_base.specs.map.Known.{Index, Question}
 use Rattle.osm_base.specs.map.Listers.{index_of}
 use Rattle.osm_base.specs.map.Objects.{ObjectSet, folded_all}
-use Rattle.row_map.specs.Condition.{reaches_nodes}
+use Rattle.row_rules.specs.Condition.{reaches_nodes}
 use Rattle.dep_closure.specs.PendingSet.{AreTooMany, HasOldForms, IsPendingOf, OfKnown}
 use Rattle.dep_closure.specs.Questions.{of_all}
 use Rattle.store_maps.specs.Asked.{MayAnswer}

@@ -1,5 +1,5 @@
 use Rattle.std.proofs.Common.{◌≡◌, drop}
-use Rattle.row_map.specs.Material.{selecting_among}
+use Rattle.row_rules.specs.Material.{selecting_among}
 use Rattle.row_map.proofs.relations.Relations.select.Given as goal
 
 -- those that select are among the relations that are left

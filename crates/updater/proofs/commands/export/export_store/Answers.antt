@@ -3,7 +3,7 @@ use Rattle.std.specs.Prelude.{encode_utf8_all, is_some}
 use Rattle.std.specs.Result.{result_err}
 use Rattle.std.proofs.lemmas.Str.{encodes-chars}
 use Rattle.osm_base.specs.map.Spots.{TableMap}
-use Rattle.row_map.specs.Row.{tables}
+use Rattle.row_rules.specs.Row.{tables}
 use Rattle.row_text.specs.Table.{table_text}
 use Rattle.style_read.specs.Style.{StyleOf}
 use Rattle.update_flow.specs.Handle.{view_of}

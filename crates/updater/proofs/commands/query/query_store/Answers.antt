@@ -3,7 +3,7 @@ use Rattle.std.specs.Prelude.{is_some}
 use Rattle.std.specs.Result.{result_err}
 use Rattle.map_query.specs.declared.query.Query.{Query}
 use Rattle.osm_base.specs.map.Spots.{TableMap}
-use Rattle.row_map.specs.Row.{tables}
+use Rattle.row_rules.specs.Row.{tables}
 use Rattle.style_read.specs.Style.{StyleOf}
 use Rattle.update_flow.specs.Handle.{view_of}
 use Rattle.update_flow.specs.State.{imported}

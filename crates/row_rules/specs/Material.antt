@@ -13,7 +13,7 @@ use Rattle.osm_base.specs.values.Place.{PlaceOf}
 use Rattle.osm_base.specs.values.Tags.{TagMap}
 use Rattle.style_read.specs.declared.style.Selection.{Selection}
 use Rattle.style_read.specs.Style.{StyleOf}
-use Rattle.row_map.specs.Condition.{meets_number}
+use Rattle.row_rules.specs.Condition.{meets_number}
 
 -- the place of each node that has one, the object of each key, and, for the number of each selection, the tags of the relations that
 -- meet it and have the object whose row is made as a member, by rising id

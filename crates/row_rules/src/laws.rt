@@ -7,10 +7,10 @@ ghost use Rattle.osm_base.specs.map.Spots.{SpotOf};
 ghost use Rattle.osm_base.specs.values.Key.{KeyOf};
 ghost use Rattle.style_read.specs.declared.style.TableDef.{TableDef};
 ghost use Rattle.style_read.specs.Style.{StyleOf};
-ghost use Rattle.row_map.specs.Agree.{Agree};
-ghost use Rattle.row_map.specs.Material.{Material};
-ghost use Rattle.row_map.specs.Row.{row, row_from, tables};
-ghost use Rattle.row_map.specs.Wanted.{may_have_rows};
+ghost use Rattle.row_rules.specs.Agree.{Agree};
+ghost use Rattle.row_rules.specs.Material.{Material};
+ghost use Rattle.row_rules.specs.Row.{row, row_from, tables};
+ghost use Rattle.row_rules.specs.Wanted.{may_have_rows};
 
 use crate::{COMMA, MAX_DIGITS, MINUS};
 

@@ -21,9 +21,9 @@ use Rattle.osm_base.specs.values.KeyOrder.{key_cmp}
 use Rattle.osm_base.proofs.KeyLaws.{key_cmp-IsAntisymmetric}
 use Rattle.osm_base.proofs.SpotOrder.{spot_cmp_total}
 use Rattle.style_read.specs.Style.{StyleOf}
-use Rattle.row_map.specs.Material.{material_of}
-use Rattle.row_map.specs.Row.{row, row_of, tables}
-use Rattle.row_map.proofs.TableRows.{row_from-none}
+use Rattle.row_rules.specs.Material.{material_of}
+use Rattle.row_rules.specs.Row.{row, row_of, tables}
+use Rattle.row_rules.proofs.TableRows.{row_from-none}
 
 is_eq-then : (first second : Ordering) → is_eq (ordering_then first second) ≡ (is_eq first && is_eq second)
 is_eq-then Less second = refl

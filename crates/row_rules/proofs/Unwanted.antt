@@ -16,15 +16,15 @@ use Rattle.style_read.specs.declared.style.Source.{Source}
 use Rattle.style_read.specs.declared.style.Source.TheVariants as sources
 use Rattle.style_read.specs.declared.style.TableDef.{TableDef}
 use Rattle.style_read.specs.Style.{StyleOf}
-use Rattle.line_build.specs.Points.{line}
+use Rattle.piece_ends.specs.Points.{line}
 use Rattle.std.specs.Option.{option_to_list}
-use Rattle.row_map.specs.Condition.{holds, one_holds, table_wants}
-use Rattle.row_map.specs.Material.{Material, is_selected}
-use Rattle.row_map.specs.Objects.{is_of_kind, tags_of}
-use Rattle.row_map.specs.Row.{cells_of, row_from, row_of, wants}
-use Rattle.row_map.specs.Shape.{area, geometry_of, pieces}
-use Rattle.row_map.specs.Wanted.{may_have_geometry, may_have_rows, may_want, one_may_want}
-use Rattle.row_map.proofs.NoRow.{no_row}
+use Rattle.row_rules.specs.Condition.{holds, one_holds, table_wants}
+use Rattle.row_rules.specs.Material.{Material, is_selected}
+use Rattle.row_rules.specs.Objects.{is_of_kind, tags_of}
+use Rattle.row_rules.specs.Row.{cells_of, row_from, row_of, wants}
+use Rattle.row_rules.specs.Shape.{area, geometry_of, pieces}
+use Rattle.row_rules.specs.Wanted.{may_have_geometry, may_have_rows, may_want, one_may_want}
+use Rattle.row_rules.proofs.NoRow.{no_row}
 
 and_left : (a b : Bool) → (a && b) ≡ true → a ≡ true
 and_left true b e = refl

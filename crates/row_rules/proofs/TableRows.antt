@@ -13,13 +13,13 @@ use Rattle.osm_base.specs.values.Key.{KeyOf}
 use Rattle.style_read.specs.declared.style.Selection.{Selection}
 use Rattle.style_read.specs.declared.style.TableDef.{TableDef}
 use Rattle.style_read.specs.Style.{StyleOf}
-use Rattle.row_map.specs.Agree.{Suffices}
-use Rattle.row_map.specs.Material.{Material, material_known}
-use Rattle.row_map.specs.Row.{row, row_from, row_of}
-use Rattle.row_map.specs.Rows.{in_table, rows_from, rows_in, rows_known}
-use Rattle.row_map.specs.Wanted.{may_have_rows}
-use Rattle.row_map.proofs.Locality.{row_from-suffices}
-use Rattle.row_map.proofs.Unwanted.{row_from-unwanted}
+use Rattle.row_rules.specs.Agree.{Suffices}
+use Rattle.row_rules.specs.Material.{Material, material_known}
+use Rattle.row_rules.specs.Row.{row, row_from, row_of}
+use Rattle.row_rules.specs.Rows.{in_table, rows_from, rows_in, rows_known}
+use Rattle.row_rules.specs.Wanted.{may_have_rows}
+use Rattle.row_rules.proofs.Locality.{row_from-suffices}
+use Rattle.row_rules.proofs.Unwanted.{row_from-unwanted}
 
 rows-same : (one other : ℕ → Option Row) → ((table : ℕ) → one table ≡ other table) → (numbers : List ℕ)
     → filter_map (λ table. in_table table (one table)) numbers ≡ filter_map (λ table. in_table table (other table)) numbers

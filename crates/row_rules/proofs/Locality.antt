@@ -20,15 +20,15 @@ use Rattle.style_read.specs.declared.style.Source.{Source}
 use Rattle.style_read.specs.declared.style.Source.TheVariants as sources
 use Rattle.style_read.specs.declared.style.TableDef.{TableDef}
 use Rattle.style_read.specs.Style.{StyleOf}
-use Rattle.line_build.specs.Joins.{joined}
-use Rattle.line_build.specs.Points.{line, line_through}
-use Rattle.row_map.specs.Agree.{Agree, IsSameWay, SamePlaces, SameNodes, SameWays, Suffices}
-use Rattle.row_map.specs.Cell.{cell_from, cell_of}
-use Rattle.row_map.specs.Condition.{asks_selection, holds, is_from_selection, names_selection, one_holds, table_wants}
-use Rattle.row_map.specs.Material.{Material, is_selected, material_known, material_of}
-use Rattle.row_map.specs.Objects.{is_of_kind, tags_of}
-use Rattle.row_map.specs.Row.{cells_of, row, row_from, row_of, wants, with_geometry}
-use Rattle.row_map.specs.Shape.{area, bounds_area, geometry_of, is_area, line_in, lines_along, some_lines, ways_among}
+use Rattle.piece_ends.specs.Joins.{joined}
+use Rattle.piece_ends.specs.Points.{line, line_through}
+use Rattle.row_rules.specs.Agree.{Agree, IsSameWay, SamePlaces, SameNodes, SameWays, Suffices}
+use Rattle.row_rules.specs.Cell.{cell_from, cell_of}
+use Rattle.row_rules.specs.Condition.{asks_selection, holds, is_from_selection, names_selection, one_holds, table_wants}
+use Rattle.row_rules.specs.Material.{Material, is_selected, material_known, material_of}
+use Rattle.row_rules.specs.Objects.{is_of_kind, tags_of}
+use Rattle.row_rules.specs.Row.{cells_of, row, row_from, row_of, wants, with_geometry}
+use Rattle.row_rules.specs.Shape.{area, bounds_area, geometry_of, is_area, line_in, lines_along, some_lines, ways_among}
 
 or_left : (a b : Bool) → a ≡ true → (a || b) ≡ true
 or_left true b e = refl

@@ -10,9 +10,9 @@ use Rattle.style_read.specs.declared.style.Source.{Source}
 use Rattle.style_read.specs.declared.style.Source.TheVariants as sources
 use Rattle.style_read.specs.declared.style.TableDef.{TableDef}
 use Rattle.style_read.specs.Style.{StyleOf}
-use Rattle.row_map.specs.Condition.{table_wants}
-use Rattle.row_map.specs.Objects.{tags_of}
-use Rattle.row_map.specs.Shape.{bounds_area, is_area}
+use Rattle.row_rules.specs.Condition.{table_wants}
+use Rattle.row_rules.specs.Objects.{tags_of}
+use Rattle.row_rules.specs.Shape.{bounds_area, is_area}
 
 -- whether an object may have a geometry in a table of this source, wherever its nodes and ways are
 abbrev pub may_have_geometry : Source → Object → Bool

@@ -19,8 +19,7 @@ use Rattle.style_read.specs.declared.style.Column.{Column}
 use Rattle.style_read.specs.declared.style.Origin.{Origin}
 use Rattle.style_read.specs.declared.style.Origin.TheVariants as origins
 use Rattle.style_read.specs.declared.style.Selection.{Selection}
-use Rattle.row_map.specs.declared.number.TheConstants.{MINUS, MAX_DIGITS}
-use Rattle.row_map.specs.declared.values.TheConstants.{COMMA}
+use Rattle.row_rules.specs.declared.cell.TheConstants.{COMMA, MAX_DIGITS, MINUS}
 
 -- whether a minus stands in front of the bytes of a text
 abbrev pub is_negative : List ℕ → Bool

@@ -18,11 +18,11 @@ use Rattle.osm_base.specs.values.Place.{PlaceOf}
 use Rattle.osm_base.specs.values.Tags.{TagMap}
 use Rattle.style_read.specs.declared.style.Source.{Source}
 use Rattle.style_read.specs.declared.style.Source.TheVariants as sources
-use Rattle.line_build.specs.Joins.{joined}
-use Rattle.line_build.specs.Points.{line}
-use Rattle.ring_build.specs.Rings.{rings}
-use Rattle.ring_nest.specs.Nesting.{nested}
-use Rattle.row_map.specs.Condition.{has_value}
+use Rattle.piece_ends.specs.Joins.{joined}
+use Rattle.piece_ends.specs.Points.{line}
+use Rattle.piece_ends.specs.Rings.{rings}
+use Rattle.lanes_geo.specs.Nesting.{nested}
+use Rattle.row_rules.specs.Condition.{has_value}
 use Rattle.osm_base.specs.map.Listers.{is_kind}
 
 -- whether a member is a way that none of these is

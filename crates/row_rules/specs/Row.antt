@@ -14,11 +14,11 @@ use Rattle.osm_base.specs.map.Spots.{SpotOf, TableMap}
 use Rattle.style_read.specs.declared.style.Selection.{Selection}
 use Rattle.style_read.specs.declared.style.TableDef.{TableDef}
 use Rattle.style_read.specs.Style.{StyleOf}
-use Rattle.row_map.specs.Cell.{cell_of}
-use Rattle.row_map.specs.Condition.{table_wants}
-use Rattle.row_map.specs.Material.{Material, is_selected, material_of}
-use Rattle.row_map.specs.Objects.{is_of_kind, tags_of}
-use Rattle.row_map.specs.Shape.{geometry_of}
+use Rattle.row_rules.specs.Cell.{cell_of}
+use Rattle.row_rules.specs.Condition.{table_wants}
+use Rattle.row_rules.specs.Material.{Material, is_selected, material_of}
+use Rattle.row_rules.specs.Objects.{is_of_kind, tags_of}
+use Rattle.row_rules.specs.Shape.{geometry_of}
 
 -- whether the conditions of a table hold of an object
 abbrev pub wants : Material → TableDef → Object → Bool

@@ -12,8 +12,8 @@ use Rattle.osm_base.specs.values.Key.{KeyOf}
 use Rattle.style_read.specs.declared.style.Selection.{Selection}
 use Rattle.style_read.specs.declared.style.TableDef.{TableDef}
 use Rattle.style_read.specs.Style.{StyleOf}
-use Rattle.row_map.specs.Material.{Material, material_known}
-use Rattle.row_map.specs.Row.{row, row_from, row_of}
+use Rattle.row_rules.specs.Material.{Material, material_known}
+use Rattle.row_rules.specs.Row.{row, row_from, row_of}
 
 -- a row of the table with a number, if there is one
 abbrev pub in_table : ℕ → Option Row → Option TableRow

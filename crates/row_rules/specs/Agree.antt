@@ -8,10 +8,10 @@ use Rattle.osm_base.specs.values.Key.{KeyOf}
 use Rattle.osm_base.specs.map.Known.{Known}
 use Rattle.style_read.specs.declared.style.TableDef.{TableDef}
 use Rattle.style_read.specs.Style.{StyleOf}
-use Rattle.row_map.specs.Condition.{names_selection}
-use Rattle.row_map.specs.Material.{Material, material_known, material_of}
+use Rattle.row_rules.specs.Condition.{names_selection}
+use Rattle.row_rules.specs.Material.{Material, material_known, material_of}
 use Rattle.osm_base.specs.map.Objects.{ObjectSet}
-use Rattle.row_map.specs.Shape.{ways_among}
+use Rattle.row_rules.specs.Shape.{ways_among}
 
 module _ (one other : Material) where
   -- the nodes have the same places

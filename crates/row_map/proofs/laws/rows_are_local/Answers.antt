@@ -1,5 +1,0 @@
-use Rattle.row_map.proofs.Locality.{row_from-same}
-use Rattle.row_map.proofs.laws.rows_are_local.Goals as goal
-
-pub returns : goal.returns
-returns c = record { same = row_from-same }

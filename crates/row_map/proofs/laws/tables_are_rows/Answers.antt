@@ -1,5 +1,0 @@
-use Rattle.row_map.proofs.TableMap.{get-tables}
-use Rattle.row_map.proofs.laws.tables_are_rows.Goals as goal
-
-pub returns : goal.returns
-returns c = record { spot = get-tables }

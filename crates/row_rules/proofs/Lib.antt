@@ -1,0 +1,5 @@
+pub mod Locality
+pub mod NoRow
+pub mod TableMap
+pub mod TableRows
+pub mod Unwanted
