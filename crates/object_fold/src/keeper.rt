@@ -23,8 +23,8 @@ pub trait Keeper: Drop {
         ensures ok { OnOk result (self.new ≡ after self.old entry) }
         ensures rises { OnOk result ((next : KeyOf) → IsTrue (is_below entry.key next) → takes self.new next) };
 
-    /// Takes the entries that come after a key, and hands back what it does not keep of them: whoever gives them lets go of that when no
-    /// other thread asks for memory.
+    /// Takes the entries that come after a key, and hands back what it does not keep of them: the threads that read the next lot let go
+    /// of that.
     fn keep_all(
         &mut self,
         last: Option<Key>,

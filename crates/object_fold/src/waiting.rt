@@ -93,25 +93,43 @@ fn behind_first(alloc: Global, bytes: &[u8], first: Share, mut more: Vec<Share>)
 }
 
 /// How many bytes of a lot are read by the worker that gives the entries of the lot before it, if there is one.
-fn own_len(lot: usize, workers: u32, is_first: bool) -> usize
+fn own_len(lot: usize, workers: u32, is_first: bool, is_busy: bool) -> usize
     requires workers { 0 < workers }
 {
     if is_first {
         return lot / workers as usize;
+    }
+    // A keeper that hands entries back has work of its own with each.
+    if is_busy {
+        return 0;
     }
     // To put a lot behind takes about a ninth of what it takes to read one.
     let others = (workers - 1) as usize;
     lot.saturating_sub((lot / 9).saturating_mul(others)) / workers as usize
 }
 
+/// Whether a keeper handed an entry back.
+fn hands_back(left: &[Vec<Entry>]) -> bool {
+    left.iter().any(|share| !share.is_empty())
+}
+
+/// Lets go of these entries.
+fn let_go(garbage: &mut [Vec<Entry>]) {
+    for share in garbage {
+        share.clear();
+    }
+}
+
 /// Reads each of these pieces of a lot by a thread of its own, while this one gives a keeper the entries of the lot that waits and then
-/// reads the front. How many bytes of the one that waited were taken, the share of the front, and those of the pieces.
+/// reads the front. Before that each lets go of one share of the garbage. How many bytes of the one that waited were taken, the share of
+/// the front, and those of the pieces.
 fn read_with_others<R: Threads + Sync, K: Keeper>(
     rt: &R,
     alloc: Global,
     limits: &Limits,
     front: &[u8],
     pieces: &[&[u8]],
+    garbage: &mut [Vec<Entry>],
     waiting: &mut Waiting,
     passed: &mut Passed,
     keeper: &mut K,
@@ -131,15 +149,20 @@ fn read_with_others<R: Threads + Sync, K: Keeper>(
     ensures shares { IfOk result.2 (λ shares. AllZip (λ piece share. IsShareOf limits.now piece.now share) pieces.now shares.items) }
 {
     let Some((last, others)) = pieces.split_last() else {
+        let_go(garbage);
         let given = waiting.give(alloc, limits, passed, keeper);
         return (given, read_share(alloc, limits, front), Ok(Vec::new(alloc)));
     };
+    let (rest, own) = garbage.split_at_mut(garbage.len().saturating_sub(1));
     // Threads that are made by new threads wait behind these on one processor, so this one makes them all.
     let (share, (given, first, read)) = join_mut(
         rt,
         &mut || -> Share
             ensures { IsShareOf limits.entry.now last.entry.now.now result }
-        { read_share(alloc, limits, *last) },
+        {
+            let_go(own);
+            read_share(alloc, limits, *last)
+        },
         &mut || -> (
             Result<usize, OutOfMemory>,
             Share,
@@ -154,7 +177,11 @@ fn read_with_others<R: Threads + Sync, K: Keeper>(
                 × GoesOn K.takes limits.entry.now passed.exit.now keeper.exit.now)
                 × IsShareOf limits.entry.now front.entry.now result.1
                 × IfOk result.2 (λ shares. AllZip (λ piece share. IsShareOf limits.entry.now piece.now share) others.entry.now shares.items) }
-        { read_with_others(rt, alloc, limits, front, others, waiting, passed, keeper) },
+        {
+            read_with_others(
+                rt, alloc, limits, front, others, rest, waiting, passed, keeper,
+            )
+        },
     );
     let Ok(mut shares) = read else {
         return (given, first, Err(OutOfMemory));
@@ -189,7 +216,10 @@ pub fn read_beside<R: Threads + Sync, K: Keeper>(
     ensures goes { OnOk result (GoesOn K.takes limits.now passed.new keeper.new) }
     ensures shares { IfOk result (λ read. AreShares limits.now bytes.now read.1.items) }
 {
-    let own = own_len(lot, workers, waiting.shares.is_empty());
+    // Any thread may let go of it, so the readers of this lot share that work.
+    let mut garbage = mem::replace(&mut waiting.left, Vec::new(alloc));
+    let is_first = waiting.shares.is_empty();
+    let own = own_len(lot, workers, is_first, hands_back(&garbage));
     let (front, rest) = bytes.split_at(piece_end(bytes, own));
     let others = (workers - 1).max(1);
     let least = lot.saturating_sub(own) / others as usize;
@@ -198,10 +228,16 @@ pub fn read_beside<R: Threads + Sync, K: Keeper>(
         return Err(OutOfMemory);
     };
     let (given, first, read) = read_with_others(
-        rt, alloc, limits, front, &pieces, waiting, passed, keeper,
+        rt,
+        alloc,
+        limits,
+        front,
+        &pieces,
+        &mut garbage,
+        waiting,
+        passed,
+        keeper,
     );
-    // No thread asks for memory now, so to let go of it makes nobody wait.
-    waiting.left.clear();
     let mut more = read?;
     leave_out(&pieces, &mut more);
     let used = given?;
