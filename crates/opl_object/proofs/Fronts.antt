@@ -45,7 +45,7 @@ front_digits (byte ∷ rest) = elim (cases_Bool (is_ascii_digit byte)) [
   | inr failed ↦ rw failed refl
 ]
 
-blank_cases : (byte : ℕ) → is_blank byte ≡ true → (byte ≡ 32) ⊎ (byte ≡ 9)
+pub blank_cases : (byte : ℕ) → is_blank byte ≡ true → (byte ≡ 32) ⊎ (byte ≡ 9)
 blank_cases byte e = elim (cases_Bool (eqb byte 32)) [
   | inl space ↦ inl (eqb-true byte 32 space)
   | inr none ↦ (let tab : eqb byte 9 ≡ true = rw none at e in inr (eqb-true byte 9 tab))

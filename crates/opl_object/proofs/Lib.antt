@@ -7,6 +7,7 @@ pub mod FaultsOfItems
 pub mod FaultsOfLines
 pub mod FieldSteps
 pub mod FirstFaults
+pub mod FirstKeys
 pub mod Fronts
 pub mod GatheredTags
 pub mod Letters

@@ -53,11 +53,14 @@ object_of kinds.Relation parts = Ok (Relation parts.members parts.tags)
 unfoldable pub entry_of : KeyOf → Parts → Result Entry Why
 entry_of key parts = object_of key.kind parts >>= λ object. Ok (record { key = key; object = if parts.deleted then None else Some object })
 
+-- the entry of a key and of the fields behind it
+abbrev pub entry_behind : KeyOf → List (List ℕ) → Result Entry Why
+entry_behind key fields = parts_of key.kind fields >>= λ parts. entry_of key parts
+
 -- the entry of the fields of a line
 unfoldable pub entry_from : List (List ℕ) → Result Entry Why
 entry_from [] = Err causes.Kind
-entry_from (first ∷ fields) = key_of first >>= λ key.
-    parts_of key.kind fields >>= λ parts. entry_of key parts
+entry_from (first ∷ fields) = key_of first >>= λ key. entry_behind key fields
 
 -- the entry of a line, where it is not skipped, or the first cause
 unfoldable pub reading : List ℕ → Result (Option Entry) Why

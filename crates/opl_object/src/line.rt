@@ -1,5 +1,6 @@
 //! A whole line.
-ghost use Rattle.std.specs.Prelude.{◌≡◌, ◌≢◌, ◌↔◌, ◌≤ℤ◌, neg_ℤ, ℕ, List, Option, None, Some, Result, Ok, Err, IsFalse, IsSome, IfSome, IfOk, IfErr, IsOkAnd};
+ghost use Rattle.std.specs.Prelude.{◌≡◌, ◌≢◌, ◌↔◌, ◌≤ℤ◌, ◌∷◌, neg_ℤ, ℕ, List, Option, None, Some, Result, Ok, Err, IsFalse, IsSome, IfSome, IfOk, IfErr, IsOkAnd};
+ghost use Rattle.std.specs.List.{before_first};
 ghost use Rattle.osm_base.specs.declared.values.object.Entry.{Entry};
 ghost use Rattle.osm_base.specs.values.Key.{KeyOf};
 ghost use Rattle.opl_object.specs.declared.why.Why.{Why};
@@ -10,14 +11,14 @@ ghost use Rattle.opl_object.specs.Spells.{Spells};
 ghost use Rattle.osm_base.specs.declared.values.place.TheConstants.{MAX_LON, MAX_LAT};
 ghost use Rattle.opl_object.specs.Earth.{AreOnEarth};
 ghost use Rattle.opl_object.specs.Faults.{HasFault};
-ghost use Rattle.opl_object.specs.Fields.{fields_of};
-ghost use Rattle.opl_object.specs.Line.{IsSkipped, is_skipped, utf8_of, key_of, place_of, object_of, entry_of, entry_from, reading};
+ghost use Rattle.opl_object.specs.Fields.{is_blank, fields_of};
+ghost use Rattle.opl_object.specs.Line.{IsSkipped, is_skipped, utf8_of, key_of, place_of, object_of, entry_of, entry_behind, entry_from, reading};
 ghost use Rattle.opl_object.specs.Why.{Gives, Tells};
 ghost use Rattle.opl_object.specs.Written.{IsWritable};
 
-use crate::fields::next_field;
+use crate::fields::{ends_at, next_field};
 use crate::members::kind_at;
-use crate::number::id_of;
+use crate::number::{id_of, usual_id};
 use crate::parts::{Parts, read_fields};
 use crate::{LineRefused, Why};
 use osm_base::{Entry, Key, Kind, Object, Place};
@@ -93,16 +94,46 @@ fn is_skipped(line: &[u8]) -> bool
 }
 
 /// The entry of the fields of a line.
-#[tactic(auto, unfolding(crate::specs::Line::entry_from))]
 fn read_entry(alloc: Global, usual: bool, text: &str) -> Result<Entry, LineRefused>
     ensures entry { Gives (λ entry. entry) result (entry_from (fields_of text.now)) }
 {
-    let Some((first, rest)) = next_field(text) else {
-        return Err(LineRefused::Bad(Why::Kind));
+    let (key, rest) = match first_field(usual, text) {
+        Ok(found) => found,
+        Err(why) => return Err(LineRefused::Bad(why)),
     };
-    let key = key_of(first)?;
     let parts = read_fields(alloc, usual, key.kind, rest)?;
     Ok(entry_of(key, parts)?)
+}
+
+/// The key that the first field is, and what stands behind that field.
+#[tactic(auto, unfolding(crate::specs::Line::entry_from))]
+fn first_field(usual: bool, text: &str) -> Result<(Key, &str), Why>
+    ensures entry { IfOk result (λ (key, rest). entry_from (fields_of text.now) ≡ entry_behind key (fields_of rest.now)) }
+    ensures refused { IfErr result (λ why. entry_from (fields_of text.now) ≡ Err why) }
+{
+    if usual {
+        if let Some(found) = usual_key(text) {
+            return Ok(found);
+        }
+    }
+    let Some((first, rest)) = next_field(text) else {
+        return Err(Why::Kind);
+    };
+    Ok((key_of(first)?, rest))
+}
+
+/// The key in its usual form that the first field is, and what stands behind that field.
+fn usual_key(text: &str) -> Option<(Key, &str)>
+    ensures fields { IfSome result (λ (_, rest). fields_of text.now ≡ before_first is_blank text.now ∷ fields_of rest.now) }
+    ensures key { IfSome result (λ (key, _). key_of (before_first is_blank text.now) ≡ Ok key) }
+{
+    let (kind, digits) = kind_at(text)?;
+    let (id, len) = usual_id(digits.as_bytes())?;
+    if !ends_at(digits.as_bytes(), len) {
+        return None;
+    }
+    let (_, rest) = digits.split_at(len);
+    Some((Key::new(kind, id), rest))
 }
 
 /// The key that the first field is.

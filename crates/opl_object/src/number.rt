@@ -66,16 +66,17 @@ pub(crate) fn is_time(text: &[u8]) -> bool
 }
 
 /// Whether each byte of a time is one that the form has there.
+#[inline(always)]
 pub(crate) fn all_formed(text: &[u8]) -> bool
     requires { length text.now ≡ 20 }
     ensures value { result ≡ list_all is_formed (zip TIME_FORM text.now) }
 {
+    // No byte ends the loop, so that several are tested at once.
+    let mut all = true;
     for (place, &byte) in text.iter().enumerate() {
-        if !is_formed(TIME_FORM[place], byte) {
-            return false;
-        }
+        all &= is_formed(TIME_FORM[place], byte);
     }
-    true
+    all
 }
 
 /// Whether a byte is a digit where the form has one, and else the form's own.

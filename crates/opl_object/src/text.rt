@@ -10,7 +10,7 @@ ghost use Rattle.opl_object.specs.Spelled.{spelled_bytes};
 ghost use Rattle.opl_object.specs.Text.{is_reserved, is_plain, escaped, resolved, bytes_of, text_of, checked_text};
 ghost use Rattle.opl_object.specs.Why.{Gives};
 
-use crate::ascii::PERCENT;
+use crate::ascii::{AT, PERCENT};
 use crate::fields::cut;
 use crate::{LineRefused, Why};
 use osm_base::{OutOfMemory, Text};
@@ -176,6 +176,10 @@ fn is_plain(text: &[u8]) -> bool
 pub(crate) fn is_reserved(byte: u8) -> bool
     ensures value { result ≡ is_reserved byte }
 {
+    // Most bytes are letters, for which one comparison is enough.
+    if byte > AT {
+        return false;
+    }
     match byte {
         0 | b'\t' | b'\n' | b' ' | b'%' | b',' | b'=' | b'@' => true,
         _ => false,

@@ -1,9 +1,9 @@
-use Rattle.std.proofs.Common.{◌≡◌, true, take}
+use Rattle.std.proofs.Common.{◌≡◌, take}
 use Rattle.std.specs.List.{list_all, zip}
 use Rattle.opl_object.specs.declared.number.TheConstants.{TIME_FORM}
 use Rattle.opl_object.specs.Number.{is_formed}
 use Rattle.opl_object.proofs.number.all_formed.Given as goal
 
--- each byte so far is one that the form has there
+-- whether each byte so far is one that the form has there
 abbrev pub invariant-loop-place : goal.invariant-loop-place
-invariant-loop-place l = list_all is_formed (take l.place (zip TIME_FORM l.text)) ≡ true
+invariant-loop-place l = l.all ≡ list_all is_formed (take l.place (zip TIME_FORM l.text))
