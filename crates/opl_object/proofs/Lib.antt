@@ -10,6 +10,7 @@ pub mod FirstFaults
 pub mod FirstKeys
 pub mod Fronts
 pub mod GatheredTags
+pub mod LaneLaws
 pub mod Letters
 mod Manual
 pub mod MixedTags

@@ -12,6 +12,7 @@ pub mod Mixed
 pub mod Nodes
 pub mod Number
 pub mod Parts
+pub mod Runs
 pub mod Seen
 pub mod Spelled
 pub mod Spelling

@@ -6,6 +6,7 @@ ghost use Rattle.std.specs.Option.{option_map};
 ghost use Rattle.opl_object.specs.Fields.{is, is_blank, from_blank, fields_of, cut_at, later_pieces, behind};
 
 use crate::ascii::{COMMA, SPACE, TAB};
+use crate::lanes::{LANES, digits_run};
 use memchr::memchr2;
 
 /// What stands before the first `end` and, where there is one, what stands after it.
@@ -163,6 +164,12 @@ fn field_place(text: &[u8]) -> usize
 pub(crate) fn digits_len(text: &[u8]) -> usize
     ensures place { result ≡ position_or_len (λ byte. not (is_ascii_digit byte)) text.now }
 {
+    if text.len() >= LANES {
+        let run = digits_run(text);
+        if run < LANES {
+            return run;
+        }
+    }
     for (place, byte) in text.iter().enumerate() {
         if !byte.is_ascii_digit() {
             return place;

@@ -27,6 +27,7 @@ mod coordinate;
 mod escapes;
 mod fields;
 mod head;
+mod lanes;
 mod letter;
 mod line;
 mod lists;

@@ -9,6 +9,7 @@ ghost use Rattle.opl_object.specs.Text.{is_plain, is_reserved};
 use crate::ascii::{CAPITAL_V, POINT};
 use crate::coordinate::with_sign;
 use crate::fields::{digits_len, ends_at};
+use crate::lanes::bare_run;
 use crate::number::{SMALL, TIME_FORM, WHOLE_DIGITS, all_formed, signed, small_number};
 use crate::text::is_reserved;
 
@@ -74,8 +75,8 @@ pub(crate) fn plain_end(text: &[u8]) -> Option<usize>
 pub(crate) fn plain_len(text: &[u8]) -> usize
     ensures len { result ≡ position_or_len is_reserved text.now }
 {
-    for (place, &byte) in text.iter().enumerate() {
-        if is_reserved(byte) {
+    for place in bare_run(text)..text.len() {
+        if is_reserved(text[place]) {
             return place;
         }
     }

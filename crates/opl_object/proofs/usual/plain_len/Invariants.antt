@@ -1,7 +1,7 @@
-use Rattle.std.proofs.Common.{◌≡◌, ℕ, ◌<◌, Bool, false, get_or}
+use Rattle.std.proofs.Common.{◌≡◌, ℕ, ◌<◌, false, get_or}
 use Rattle.opl_object.specs.Text.{is_reserved}
 use Rattle.opl_object.proofs.usual.plain_len.Given as goal
 
 -- no byte so far is reserved
 abbrev pub invariant-loop-place : goal.invariant-loop-place
-invariant-loop-place l = let ends : ℕ → Bool = is_reserved in (k : ℕ) → k < l.place → ends (get_or l.text k 0) ≡ false
+invariant-loop-place l = (k : ℕ) → k < l.place → is_reserved (get_or l.text k 0) ≡ false
