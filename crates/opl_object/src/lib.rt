@@ -16,10 +16,11 @@
 //! spells the entry by the same `Spells`, so `read_line` reads it as the same; and what `read_line` has
 //! read can be written. `specs/Written.antt` says which of the many lines of an entry it is.
 //!
-//! A value in the form that files mostly have is tested in the pass that finds where it ends (`usual`), and
-//! the fields that most lines begin with are passed over in their usual order (`head`); any other value is
-//! cut off first. A text without an escape is copied from the line as it stands. Values that are not kept are
-//! checked where they stand, and take no memory; an empty list takes none either.
+//! A value in the form that files mostly have is tested in the pass that finds where it ends (`usual`), sixteen
+//! bytes at a time where so many are left (`lanes`), and the fields that most lines begin with are passed over in
+//! their usual order (`head`); any other value is cut off first. A text without an escape is copied from the line
+//! as it stands. Values that are not kept are checked where they stand, and take no memory; an empty list takes
+//! none either.
 #![tactic(auto)]
 
 mod ascii;
