@@ -42,6 +42,14 @@ impl Change {
         }
     }
 
+    /// No entry. Entries will stand in this room.
+    pub(crate) fn over(room: Vec<Entry>) -> Self
+        requires empty { room.items ≡ [] }
+        ensures empty { result ≡ [] }
+    {
+        Self { entries: room }
+    }
+
     /// The entries in order.
     pub fn entries(&self) -> &[Entry]
         ensures entries { result.now ≡ self.now }

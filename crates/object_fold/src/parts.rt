@@ -40,6 +40,17 @@ impl Part {
         }
     }
 
+    /// No line. Entries will stand in this room.
+    fn over(room: Vec<Entry>) -> Self
+        requires empty { room.items ≡ [] }
+        ensures empty { result ≡ record { passed = none_passed; change = [] } }
+    {
+        Self {
+            passed: Passed::new(),
+            change: Change::over(room),
+        }
+    }
+
     /// Adds a line, where it has no fault and there is memory.
     fn add(&mut self, alloc: Global, limits: &Limits, line: &[u8]) -> bool
         requires last { self.old.passed.last ≡ last_key None self.old.change }
@@ -137,12 +148,14 @@ impl Share {
     }
 }
 
-/// The lines that end in these bytes, read apart from all before them; none where one of them has a fault or memory runs out.
-pub fn read_share(alloc: Global, limits: &Limits, bytes: &[u8]) -> Share
+/// The lines that end in these bytes, read apart from all before them; none where one of them has a fault or memory runs out. Their entries
+/// stand in this room.
+pub fn read_share(alloc: Global, limits: &Limits, bytes: &[u8], room: Vec<Entry>) -> Share
+    requires empty { room.items ≡ [] }
     ensures within { result.len ≤ length bytes.now }
     ensures part { IsPart limits.now (take result.len bytes.now) result.part }
 {
-    let mut part = Part::new(alloc);
+    let mut part = Part::over(room);
     let mut rest = bytes;
     while let Some((line, behind)) = first_line(rest) {
         if !part.add(alloc, limits, line) {

@@ -113,11 +113,16 @@ fn hands_back(left: &[Vec<Entry>]) -> bool {
     left.iter().any(|share| !share.is_empty())
 }
 
-/// Lets go of these entries.
-fn let_go(garbage: &mut [Vec<Entry>]) {
+/// Lets go of these entries, and answers the room that the last of them had.
+fn emptied(alloc: Global, garbage: &mut [Vec<Entry>]) -> Vec<Entry>
+    ensures empty { result.items ≡ [] }
+{
+    let mut room = Vec::new(alloc);
     for share in garbage {
         share.clear();
+        room = mem::replace(share, Vec::new(alloc));
     }
+    room
 }
 
 /// Reads each of these pieces of a lot by a thread of its own, while this one gives a keeper the entries of the lot that waits and then
@@ -149,9 +154,13 @@ fn read_with_others<R: Threads + Sync, K: Keeper>(
     ensures shares { IfOk result.2 (λ shares. AllZip (λ piece share. IsShareOf limits.now piece.now share) pieces.now shares.items) }
 {
     let Some((last, others)) = pieces.split_last() else {
-        let_go(garbage);
+        let room = emptied(alloc, garbage);
         let given = waiting.give(alloc, limits, passed, keeper);
-        return (given, read_share(alloc, limits, front), Ok(Vec::new(alloc)));
+        return (
+            given,
+            read_share(alloc, limits, front, room),
+            Ok(Vec::new(alloc)),
+        );
     };
     let (rest, own) = garbage.split_at_mut(garbage.len().saturating_sub(1));
     // Threads that are made by new threads wait behind these on one processor, so this one makes them all.
@@ -160,8 +169,8 @@ fn read_with_others<R: Threads + Sync, K: Keeper>(
         &mut || -> Share
             ensures { IsShareOf limits.entry.now last.entry.now.now result }
         {
-            let_go(own);
-            read_share(alloc, limits, *last)
+            let room = emptied(alloc, own);
+            read_share(alloc, limits, *last, room)
         },
         &mut || -> (
             Result<usize, OutOfMemory>,
