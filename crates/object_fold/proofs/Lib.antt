@@ -1,5 +1,6 @@
 mod Accepted
 pub mod FoldLaws
+mod Gathered
 pub mod IndexOf
 mod Joined
 mod Lines

@@ -10,7 +10,8 @@
 //! relations have a node or a way as a member, as rising ids. It is always the one that `index_of` of
 //! `specs/Index.antt` gives of the objects that stand, also after memory ran out within a fold. Lines
 //! are built of `Objects` through `Lookup`, and what a change makes due is asked through `Back`, of
-//! `Objects` or of an `ObjectIndex` over objects that are only read.
+//! `Objects` or of an `ObjectIndex` over objects that are only read. `UnlistedObjects` are objects
+//! without the index, while nobody asks for it; `into_objects` lists them.
 #![tactic(auto)]
 
 mod change;
@@ -34,7 +35,7 @@ pub use change::Change;
 pub use fault::FileFault;
 pub use keeper::Keeper;
 pub use lots::{LOT, read_by_lots, read_parallel, scan_by_lots, scan_parallel};
-pub use objects::{ObjectIndex, Objects};
+pub use objects::{ObjectIndex, Objects, UnlistedObjects};
 pub use rising_ids::RisingIds;
 pub use scan::{PIECE, read_file, scan_file};
 pub use whole::{WholeFault, read_all};

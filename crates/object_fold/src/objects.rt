@@ -10,6 +10,8 @@ ghost use Rattle.osm_base.specs.values.Ids.{has};
 ghost use Rattle.object_fold.specs.Listings.{AreListingsOf, AreListedBy, HasIds, AreListed, AddsSome, Turns, added};
 ghost use Rattle.object_fold.specs.Objects.{MakesOrKeeps};
 
+mod unlisted;
+
 use crate::Change;
 use crate::listed::Listed;
 use crate::listings::Listings;
@@ -17,6 +19,7 @@ use osm_base::{Back, Entry, Ids, Key, Kind, Lookup, MAX_ID, Object, OutOfMemory,
 use std::alloc::Global;
 use std::collections::BTreeMap;
 use std::marker::Model;
+pub use unlisted::UnlistedObjects;
 
 /// The objects of a map by their keys, with the index of who lists them.
 #[derive(Drop)]

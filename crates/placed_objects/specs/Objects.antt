@@ -23,6 +23,15 @@ with_nodes (node ∷ nodes) objects = map.insert (with_nodes nodes objects) (nod
 unfoldable pub joined : PlaceMap → ObjectSet → ObjectSet
 joined places objects = with_nodes (map.entries places) objects
 
+-- what is looked up of them where nobody asks who lists them: the place of each node, and each way and relation
+abbrev pub looked_up_alone : ObjectSet → Known
+looked_up_alone objects = record {
+  place = (known_of objects).place;
+  object = λ key. if is_kind key.kind kinds.Node then None else map.get objects key;
+  relations_of_way = λ _. [];
+  relations_of_node = λ _. [];
+}
+
 -- what is looked up of them: the place of each node, but no node itself
 abbrev pub looked_up : ObjectSet → Known
 looked_up objects = record {

@@ -16,9 +16,9 @@ use std::marker::Model;
 #[derive(Drop)]
 pub struct PlacedObjects {
     /// Nodes with a place and without a tag.
-    places: NodePlaces,
+    pub(crate) places: NodePlaces,
     /// All other objects, and nodes that came out of order.
-    others: Objects,
+    pub(crate) others: Objects,
 }
 
 impl Model for PlacedObjects {
@@ -84,14 +84,14 @@ impl PlacedObjects {
 }
 
 /// Whether a key is that of a node.
-fn is_node(key: Key) -> bool
+pub(crate) fn is_node(key: Key) -> bool
     ensures { result ≡ is_kind key.kind kinds.Node }
 {
     key.kind == Kind::Node
 }
 
 /// Puts the node that an entry makes among the places, where it is no more than its place. `false`: it is, or it came out of order.
-fn put_plain(places: &mut NodePlaces, entry: &Entry) -> Result<bool, OutOfMemory>
+pub(crate) fn put_plain(places: &mut NodePlaces, entry: &Entry) -> Result<bool, OutOfMemory>
     requires { is_kind entry.now.key.kind kinds.Node ≡ true }
     ensures ok { IfOk result (λ put. (others : ObjectSet) → joined places.new others
         ≡ cond put (folded (joined places.old others) entry.now) (joined places.old others)) }

@@ -7,6 +7,7 @@ use Rattle.osm_base.specs.declared.values.object.Entry.{Entry}
 use Rattle.osm_base.specs.values.Key.{IsId, way_key}
 use Rattle.osm_base.specs.contracts.values.key.Key as key
 use Rattle.osm_base.specs.contracts.values.object.Object as object
+use Rattle.osm_base.specs.map.Known.{Known}
 use Rattle.osm_base.specs.map.Objects.{ObjectSet, folded}
 use Rattle.osm_base.specs.map.Listers.{known_of}
 use Rattle.osm_base.specs.values.Ids.{has}
@@ -18,6 +19,10 @@ use Rattle.tag_rows.specs.Lines.{object_row}
 abbrev pub some_row : List ℕ → Option (List ℕ)
 some_row [] = None
 some_row (byte ∷ bytes) = Some (byte ∷ bytes)
+
+-- the row of a way of what is known of objects, or nothing
+abbrev pub row_known : List ℕ → Known → ℕ → List ℕ
+row_known key known id = object_row key known.place id (known.object (way_key id))
 
 -- the row of a way of these objects, or nothing
 abbrev pub row_at : List ℕ → ObjectSet → ℕ → List ℕ

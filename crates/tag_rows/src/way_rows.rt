@@ -9,15 +9,15 @@ ghost use Rattle.osm_base.specs.map.Objects.{folded_all};
 ghost use Rattle.osm_base.specs.values.Ids.{has};
 ghost use Rattle.dep_closure.specs.Ways.{Leaves};
 ghost use Rattle.tag_rows.specs.Lines.{lines_text};
-ghost use Rattle.tag_rows.specs.WayRows.{after_way, no_ways, row_at, some_row};
+ghost use Rattle.tag_rows.specs.WayRows.{AreRows, after_way, no_ways, row_known, some_row};
 
 use crate::rows_by_id::RowsById;
 use crate::trimmed_change::{TrimmedChange, trimmed_entry};
 use crate::way_row::push_row;
 use dep_closure::ways_due;
 use object_fold::{Change, Keeper};
-use osm_base::{Entry, Ids, Key, Kind, OutOfMemory, TryCopy};
-use placed_objects::PlacedObjects;
+use osm_base::{Entry, Ids, Key, Kind, Lookup, OutOfMemory, TryCopy};
+use placed_objects::{PlacedImport, PlacedObjects};
 use std::alloc::Global;
 use std::marker::Model;
 use std::mem;
@@ -110,7 +110,7 @@ impl<'k> WayRows<'k> {
 pub struct WayImport<'k> {
     alloc: Global,
     key: &'k str,
-    objects: PlacedObjects,
+    objects: PlacedImport,
     /// The ids of the ways.
     ways: Vec<u64>,
 }
@@ -136,29 +136,44 @@ impl<'k> WayImport<'k> {
         WayImport {
             alloc,
             key,
-            objects: PlacedObjects::new(alloc),
+            objects: PlacedImport::new(alloc),
             ways: Vec::new(alloc),
         }
     }
 
-    /// The rows of the ways that were kept.
+    /// The rows of the ways that were kept, for files of changes behind.
     pub fn into_rows(self) -> Result<WayRows<'k>, OutOfMemory>
         ensures same { IfOk result (λ rows. rows ≡ self.entry) }
     {
+        let rows = self.rows()?;
         let Self {
             alloc,
             key,
             objects,
-            ways,
+            ..
         } = self;
-        let mut rows = RowsById::new(alloc);
-        set_rows(alloc, key, &objects, &ways, &mut rows)?;
         Ok(WayRows {
             alloc,
             key,
-            objects,
+            objects: objects.into_placed()?,
             rows,
         })
+    }
+
+    /// All rows of the ways that were kept, in order, where no change follows.
+    pub fn into_text(self) -> Result<Vec<u8>, OutOfMemory>
+        ensures text { IfOk result (λ text. text.items ≡ lines_text self.entry.key self.entry.objects) }
+    {
+        self.rows()?.text()
+    }
+
+    /// The row of each way that was kept.
+    fn rows(&self) -> Result<RowsById, OutOfMemory>
+        ensures rows { IfOk result (AreRows self.now.key self.now.objects) }
+    {
+        let mut rows = RowsById::new(self.alloc);
+        set_rows(self.alloc, self.key, &self.objects, &self.ways, &mut rows)?;
+        Ok(rows)
     }
 
     /// Takes the next entry, and leaves in it what is not kept.
@@ -225,16 +240,16 @@ fn fold_change(
 }
 
 /// Builds the rows of these ways anew.
-fn set_rows(
+fn set_rows<L: Lookup>(
     alloc: Global,
     key: &str,
-    objects: &PlacedObjects,
+    objects: &L,
     due: &[u64],
     rows: &mut RowsById,
 ) -> Result<(), OutOfMemory>
     requires { AllByRecursion IsId due.now }
     ensures rows { OnOk result ((id : ℕ) → map.get rows.new id
-        ≡ cond (has due.now id) (some_row (row_at (chars key.now) objects.now id)) (map.get rows.old id)) }
+        ≡ cond (has due.now id) (some_row (row_known (chars key.now) (L.known objects.now) id)) (map.get rows.old id)) }
 {
     let mut scratch = String::new(alloc);
     for &id in due {

@@ -1,5 +1,5 @@
 //! `lines KEY INPUT CHANGE*`: a row for each way that has the tag and a line.
-ghost use Rattle.std.specs.Prelude.{IfErr, IfOk, OnOk};
+ghost use Rattle.std.specs.Prelude.{◌≡◌, IfErr, IfOk, OnOk};
 ghost use Rattle.std.specs.Result.{result_err};
 ghost use Rattle.std.specs.Str.{chars};
 ghost use Rattle.outside.specs.Causes.{Rose};
@@ -50,6 +50,9 @@ pub fn lines<R: Threads + Sync, I: Inputs, D: Disk, S: Sink>(
         (world (I.view inputs.new) (D.view disk.now) (S.view out.new)) }
     ensures asked { AsksOnly (λ asked. I.reads inputs.old asked inputs.new) (Names (lines_of key.now files)) }
 {
+    if files.count == 1 {
+        return lines_alone(rt, alloc, key, files, inputs, disk, out);
+    }
     let limits = Limits::standard();
     let mut rows = match import(rt, alloc, key, inputs, files.first, &limits) {
         Ok(rows) => rows,
@@ -67,7 +70,33 @@ pub fn lines<R: Threads + Sync, I: Inputs, D: Disk, S: Sink>(
     tell(out, &text)
 }
 
-/// Reads the first file, whose entries become objects while they are read.
+/// The same of one file: nobody asks who lists an object of it.
+fn lines_alone<R: Threads + Sync, I: Inputs, D: Disk, S: Sink>(
+    rt: &R,
+    alloc: Global,
+    key: &str,
+    files: Files,
+    inputs: &mut I,
+    disk: &D,
+    out: &mut S,
+) -> Result<(), Fault>
+    requires fits { Fit files }
+    requires alone { files.count ≡ 1 }
+    ensures course { GoesBy (course_of (lines_of key.now files)) (begun unused 0) (result_err result)
+        (world (I.view inputs.old) (D.view disk.now) (S.view out.old))
+        (world (I.view inputs.new) (D.view disk.now) (S.view out.new)) }
+    ensures asked { AsksOnly (λ asked. I.reads inputs.old asked inputs.new) (Names (lines_of key.now files)) }
+{
+    let limits = Limits::standard();
+    let ways = match read_first(rt, alloc, key, inputs, files.first, &limits) {
+        Ok(ways) => ways,
+        Err(fault) => return Err(Fault::in_file(files.first, fault)),
+    };
+    let text = ways.into_text()?;
+    tell(out, &text)
+}
+
+/// Reads the first file for files of changes behind.
 fn import<'k, R: Threads + Sync, I: Inputs>(
     rt: &R,
     alloc: Global,
@@ -82,9 +111,28 @@ fn import<'k, R: Threads + Sync, I: Inputs>(
         (Rose (I.view inputs.old).faults (I.view inputs.new).faults)) }
     ensures read { ReadsNoOther file (λ asked. I.reads inputs.old asked inputs.new) (I.view inputs.old) (I.view inputs.new) }
 {
+    let ways = read_first(rt, alloc, key, inputs, file, limits)?;
+    Ok(ways.into_rows()?)
+}
+
+/// Reads the first file, whose entries become objects while they are read.
+fn read_first<'k, R: Threads + Sync, I: Inputs>(
+    rt: &R,
+    alloc: Global,
+    key: &'k str,
+    inputs: &mut I,
+    file: u32,
+    limits: &Limits,
+) -> Result<WayImport<'k>, FileFault>
+    ensures ok { IfOk result (λ ways. ReadsAll after_way limits.now (no_ways (chars key.now)) ways
+        ((I.view inputs.old).left file) ((I.view inputs.new).left file)) }
+    ensures stopped { IfErr result (Stops (IsFaultOf limits.now ((I.view inputs.old).left file))
+        (Rose (I.view inputs.old).faults (I.view inputs.new).faults)) }
+    ensures read { ReadsNoOther file (λ asked. I.reads inputs.old asked inputs.new) (I.view inputs.old) (I.view inputs.new) }
+{
     let mut import = WayImport::new(alloc, key);
     scan_parallel(rt, alloc, inputs, file, limits, READERS, &mut import)?;
-    Ok(import.into_rows()?)
+    Ok(import)
 }
 
 /// Reads a file of changes, which is applied whole at its end.

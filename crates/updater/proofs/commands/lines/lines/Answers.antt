@@ -16,6 +16,9 @@ use Rattle.updater.proofs.Deeds.{no_memory}
 use Rattle.updater.proofs.Turns.{first_turn, next_turn, ends_in_file, ends_short, ends_told}
 use Rattle.updater.proofs.commands.lines.lines.Goals as goal
 
+pub returns-then-files-eq1 : goal.returns-then-files-eq1
+returns-then-files-eq1 g c = record { course = c.lines_alone.ensures.course; asked = c.lines_alone.ensures.asked }
+
 pub returns-in-Err : goal.returns-in-Err
 returns-in-Err g c =
     let laws = g.met.I.Inputs g.world.𝓛 g.world.𝓜 g.world.𝓡 ((λ s x. x), (λ x. x), (λ x. x), λ x. x) in
