@@ -93,24 +93,15 @@ fn behind_first(alloc: Global, bytes: &[u8], first: Share, mut more: Vec<Share>)
 }
 
 /// How many bytes of a lot are read by the worker that gives the entries of the lot before it, if there is one.
-fn own_len(lot: usize, workers: u32, is_first: bool, is_busy: bool) -> usize
+fn own_len(lot: usize, workers: u32, is_first: bool) -> usize
     requires workers { 0 < workers }
 {
     if is_first {
         return lot / workers as usize;
     }
-    // A keeper that hands entries back has work of its own with each.
-    if is_busy {
-        return 0;
-    }
     // To put a lot behind takes about a ninth of what it takes to read one.
     let others = (workers - 1) as usize;
     lot.saturating_sub((lot / 9).saturating_mul(others)) / workers as usize
-}
-
-/// Whether a keeper handed an entry back.
-fn hands_back(left: &[Vec<Entry>]) -> bool {
-    left.iter().any(|share| !share.is_empty())
 }
 
 /// Lets go of these entries, and answers the room that the last of them had.
@@ -228,7 +219,7 @@ pub fn read_beside<R: Threads + Sync, K: Keeper>(
     // Any thread may let go of it, so the readers of this lot share that work.
     let mut garbage = mem::replace(&mut waiting.left, Vec::new(alloc));
     let is_first = waiting.shares.is_empty();
-    let own = own_len(lot, workers, is_first, hands_back(&garbage));
+    let own = own_len(lot, workers, is_first);
     let (front, rest) = bytes.split_at(piece_end(bytes, own));
     let others = (workers - 1).max(1);
     let least = lot.saturating_sub(own) / others as usize;

@@ -11,10 +11,10 @@ returns-clause-shares g c =
     let front = c.split_at.result.0.now in
     let rest = c.split_at.result.1.now in
     let whole : front ++ rest ≡ c.args.bytes.now = search rules in
-    let pieces = c.deref-2.ensures.value ∙ sym c.deref-3.ensures.value in
-    let each : AllZip (λ (piece : Bor (List ℕ)) share. IsShareOf limits piece.now share) c.deref-2.result.now c.in_ok-more.more.items = search rules in
+    let pieces = c.deref.ensures.value ∙ sym c.deref-2.ensures.value in
+    let each : AllZip (λ (piece : Bor (List ℕ)) share. IsShareOf limits piece.now share) c.deref.result.now c.in_ok-more.more.items = search rules in
     let more : AreShares limits rest c.leave_out.new.shares.items =
-    subst (λ bytes. AreShares limits bytes c.leave_out.new.shares.items) (ap bytes_of c.deref-3.ensures.value ∙ c.in-Ok.ensures.whole)
+    subst (λ bytes. AreShares limits bytes c.leave_out.new.shares.items) (ap bytes_of c.deref-2.ensures.value ∙ c.in-Ok.ensures.whole)
     (c.leave_out.ensures.shares limits (subst (λ (own : List (Bor (List ℕ))). AllZip
     (λ (piece : Bor (List ℕ)) share. IsShareOf limits piece.now share) own c.in_ok-more.more.items) pieces each)) in
     subst (λ bytes. AreShares limits bytes c.behind_first.result.items) whole
