@@ -1,25 +1,28 @@
 -- How far a file was read that is read by lots.
-use Rattle.std.proofs.Common.{◌≡◌, ◌≢◌, ℕ, ◌+◌, ◌≤◌, Bool, false, Option, Some, None, Result, Ok, Err, List, [], ◌++◌, length, drop, take}
+use Rattle.std.proofs.Common.{◌≡◌, ℕ, ◌+◌, ◌-◌, ◌≤◌, ◌<◌, Bool, false, true, cond, Option, Some, None, Result, Ok, Err, List, [], ◌++◌, length, drop, take}
 use Rattle.std.proofs.Common.{replicate, length-append, append_assoc, refl, sym, ◌∙◌, ap, subst, arith}
 use Rattle.std.proofs.lemmas.List.{replicate-append-replicate, take-append-drop}
 use Rattle.osm_base.specs.declared.bounds.limits.LimitNumbers.{LimitNumbers}
 use Rattle.osm_base.specs.declared.values.object.Entry.{Entry}
+use Rattle.osm_base.specs.values.Key.{KeyOf}
 use Rattle.opl_lines.specs.Lines.{lines_of}
-use Rattle.outside.specs.Bytes.{BothKnown}
 use Rattle.outside.specs.Causes.{Rose}
 use Rattle.outside.specs.Inputs.{FilesView}
+use Rattle.object_fold.specs.declared.ahead.Ahead.{Ahead}
 use Rattle.object_fold.specs.declared.fault.FileFault.{FileFault}
 use Rattle.object_fold.specs.declared.fault.FileFault.TheVariants as faults
 use Rattle.object_fold.specs.declared.lots.LotReader.{LotReader}
+use Rattle.object_fold.specs.declared.parts.Share.{Share}
 use Rattle.object_fold.specs.declared.passed.Passed.{Passed}
 use Rattle.object_fold.specs.declared.progress.Progress.{Progress}
 use Rattle.object_fold.specs.declared.scan.TheConstants.{PIECE}
+use Rattle.object_fold.specs.Ahead.{MovesOn, ReadsBehind}
 use Rattle.object_fold.specs.Entries.{entries_of}
 use Rattle.object_fold.specs.Keeps.{kept_all}
-use Rattle.object_fold.specs.Lots.{ReadsNoFurtherThan, ReadsBehind, HasLines, HasLots, HasCome, IsAtEnd}
-use Rattle.object_fold.specs.Parts.{none_passed, keeps_to, TakesLines}
+use Rattle.object_fold.specs.Lots.{ReadsNoFurtherThan, HasLines, HasLots, HasCome, IsAtEnd, IsNew, IsReading, IsThere, all_kept}
+use Rattle.object_fold.specs.Parts.{AreShares, GoesOn, none_passed, keeps_to, TakesLines}
 use Rattle.object_fold.specs.Progress.{entries_from, entries_left, HasRead, ReadsOn, IsKeptFault}
-use Rattle.object_fold.specs.Reading.{ReadsAll, ReadsAtMost, ReadsNoOther, ReadsNoFurther, IsFaultOf, LeavesOpen}
+use Rattle.object_fold.specs.Reading.{TakesNext, ReadsAll, ReadsAtMost, ReadsNoOther, ReadsNoFurther, IsFaultOf, LeavesOpen}
 use Rattle.object_fold.specs.Stops.{Stops}
 use Rattle.object_fold.specs.Whole.{MovesBytes}
 use Rattle.object_fold.proofs.Lines.{entries_from-none}
@@ -64,45 +67,43 @@ module _ {I : Type 0} (reads : I → List ℕ → I → Type 0) (view : I → Fi
 
 -- bytes are kept behind others
 
-pub moves_none : (kept : List ℕ) (more : Bool) (left : Option (List ℕ))
-    → BothKnown left left (λ before after. kept ++ before ≡ kept ++ after)
-moves_none kept more None = tt
-moves_none kept more (Some bytes) = refl
+pub less_left : (lot old new : ℕ) (before more : Bool) → before ≡ true → old < lot → (more ≡ true → old < new)
+    → cond more (1 + (lot - new)) 0 < cond before (1 + (lot - old)) 0
+less_left lot old new false more is few grows = absurd (cc)
+less_left lot old new true false is few grows = omega (arith, few)
+less_left lot old new true true is few grows = let further = grows refl in omega (arith, few, further)
 
--- the bytes of a file are moved from its front behind those that are kept
-abbrev pub Moves : List ℕ → List ℕ → Option (List ℕ) → Option (List ℕ) → Type 0
-Moves old new left rest = BothKnown left rest (λ before after. old ++ before ≡ new ++ after)
+pub moves_none : (ahead : Ahead) (left : Option (List ℕ)) → MovesOn ahead ahead left left
+moves_none ahead None = tt
+moves_none ahead (Some bytes) = (refl, λ none is. none is)
 
-pub moves_more : (old now new : List ℕ) (more : Bool) (start left rest : Option (List ℕ)) → Moves old now start left
-    → MovesBytes now new more left rest → Moves old new start rest
-moves_more old now new more None left rest so_far again = tt
-moves_more old now new more (Some all) None rest so_far again = absurd so_far
-moves_more old now new more (Some all) (Some bytes) None so_far again = again
-moves_more old now new more (Some all) (Some bytes) (Some later) so_far again = so_far ∙ again.0
+pub moves_more : (old now new : Ahead) (start left rest : Option (List ℕ)) → MovesOn old now start left
+    → MovesBytes now.kept.items new.kept.items new.more left rest → MovesOn old new start rest
+moves_more old now new None left rest so_far again = tt
+moves_more old now new (Some all) None rest so_far again = absurd so_far
+moves_more old now new (Some all) (Some bytes) None so_far again = again
+moves_more old now new (Some all) (Some bytes) (Some later) so_far again = (so_far.0 ∙ again.0, λ none is. again.1 is)
 
-pub moves_ended : (old now new : List ℕ) (more ends : Bool) (start left rest : Option (List ℕ)) → Moves old now start left
-    → MovesBytes now new more left rest → (ends ≡ false → more ≡ false) → MovesBytes old new ends start rest
-moves_ended old now new more ends None left rest so_far again end = tt
-moves_ended old now new more ends (Some all) None rest so_far again end = absurd so_far
-moves_ended old now new more ends (Some all) (Some bytes) None so_far again end = again
-moves_ended old now new more ends (Some all) (Some bytes) (Some later) so_far again end = (so_far ∙ again.0, λ is. again.1 (end is))
-
-pub moves_all : (old new : List ℕ) (more : Bool) (start left : Option (List ℕ)) → more ≢ false → Moves old new start left
-    → MovesBytes old new more start left
-moves_all old new more None left other so_far = tt
-moves_all old new more (Some all) None other so_far = so_far
-moves_all old new more (Some all) (Some bytes) other so_far = (so_far, λ is. absurd (other is))
-
-pub moves_behind : (old now : List ℕ) (most count : ℕ) (start left rest : Option (List ℕ)) → length now + count ≤ most
-    → Moves old now start left → ReadsAtMost count left rest → ReadsBehind most old start rest
+pub moves_behind : (old now : Ahead) (most count : ℕ) (start left rest : Option (List ℕ)) → length now.kept.items + count ≤ most
+    → MovesOn old now start left → ReadsAtMost count left rest → ReadsBehind most old.kept.items start rest
 moves_behind old now most count None left rest few so_far read = tt
 moves_behind old now most count (Some all) None rest few so_far read = absurd so_far
 moves_behind old now most count (Some all) (Some bytes) None few so_far read = read
 moves_behind old now most count (Some all) (Some bytes) (Some later) few so_far read = (
-  now ++ read.0,
-  so_far ∙ ap (λ own. now ++ own) read.1 ∙ sym (append_assoc now read.0 later),
-  omega (arith, few, read.2, length-append now read.0),
+  now.kept.items ++ read.0,
+  so_far.0 ∙ ap (λ own. now.kept.items ++ own) read.1 ∙ sym (append_assoc now.kept.items read.0 later),
+  omega (arith, few, read.2, length-append now.kept.items read.0),
 )
+
+pub moves_few : (old new : Ahead) (most : ℕ) (left rest : Option (List ℕ)) → length new.kept.items ≤ most → MovesOn old new left rest
+    → ReadsBehind most old.kept.items left rest
+moves_few old new most None rest few moves = tt
+moves_few old new most (Some bytes) None few moves = moves
+moves_few old new most (Some bytes) (Some later) few moves = (new.kept.items, moves.0, few)
+
+pub behind_none : (most : ℕ) (kept : List ℕ) (left : Option (List ℕ)) → length kept ≤ most → ReadsBehind most kept left left
+behind_none most kept None few = tt
+behind_none most kept (Some bytes) few = (kept, refl, few)
 
 -- how far a file was read
 
@@ -157,31 +158,41 @@ module _ {K : Type 0} (after : K → Entry → K) (limits : LimitNumbers) (first
     few = omega (arith, few, read.2, length-append before read.0);
   }
 
-  filled_lines : (passed : Passed) (keeper : K) (before old new : List ℕ) (more : Bool) (start left rest : Option (List ℕ))
-      → HasLots after limits first passed keeper (before ++ old) start left → MovesBytes old new more left rest → HasLots after limits first passed keeper (before ++ new) start rest
-  filled_lines passed keeper before old new more None left rest has moves = tt
-  filled_lines passed keeper before old new more (Some all) None rest has moves = absurd has
-  filled_lines passed keeper before old new more (Some all) (Some bytes) None has moves = moves
-  filled_lines passed keeper before old new more (Some all) (Some bytes) (Some later) has moves = record {
+  pub cut_stop : (passed : Passed) (keeper : K) (bytes lot kept : List ℕ) (ahead : Ahead) (most each : ℕ) (start left rest : Option (List ℕ))
+      → HasLots after limits first passed keeper (bytes ++ kept) start left → lot ++ ahead.kept.items ≡ kept
+      → ReadsBehind each ahead.kept.items left rest → length bytes + length kept + each ≤ most → ReadsNoFurtherThan most limits start rest
+  cut_stop passed keeper bytes lot kept ahead most each start left rest has cut read few =
+      let whole = ap (λ own. bytes ++ own) (sym cut) ∙ sym (append_assoc bytes lot ahead.kept.items) in
+      fill_stop passed keeper (bytes ++ lot) ahead.kept.items most each start left rest
+      (subst (λ (own : List ℕ). HasLots after limits first passed keeper own start left) whole has) read
+      (omega (arith, few, length-append bytes lot, ap length cut, length-append lot ahead.kept.items))
+
+  filled_lines : (passed : Passed) (keeper : K) (before : List ℕ) (old new : Ahead) (start left rest : Option (List ℕ))
+      → HasLots after limits first passed keeper (before ++ old.kept.items) start left → MovesOn old new left rest
+      → HasLots after limits first passed keeper (before ++ new.kept.items) start rest
+  filled_lines passed keeper before old new None left rest has moves = tt
+  filled_lines passed keeper before old new (Some all) None rest has moves = absurd has
+  filled_lines passed keeper before old new (Some all) (Some bytes) None has moves = moves
+  filled_lines passed keeper before old new (Some all) (Some bytes) (Some later) has moves = record {
     front = has.front;
-    parts = has.parts ∙ ap (λ own. has.front ++ own) (append_assoc before old bytes ∙ ap (λ own. before ++ own) moves.0
-        ∙ sym (append_assoc before new later));
+    parts = has.parts ∙ ap (λ own. has.front ++ own) (append_assoc before old.kept.items bytes ∙ ap (λ own. before ++ own) moves.0
+        ∙ sym (append_assoc before new.kept.items later));
     same = has.same;
   }
 
-  filled_end : (passed : Passed) (keeper : K) (kept old new : List ℕ) (more : Bool) (start left rest : Option (List ℕ)) → HasLots after limits first passed keeper kept start left
-      → MovesBytes old new more left rest → more ≡ false → IsAtEnd start rest
-  filled_end passed keeper kept old new more None left rest has moves none = tt
-  filled_end passed keeper kept old new more (Some all) None rest has moves none = absurd has
-  filled_end passed keeper kept old new more (Some all) (Some bytes) None has moves none = moves
-  filled_end passed keeper kept old new more (Some all) (Some bytes) (Some later) has moves none = moves.1 none
+  filled_end : (passed : Passed) (keeper : K) (kept : List ℕ) (old new : Ahead) (start left rest : Option (List ℕ))
+      → HasCome after limits first passed keeper kept old.more start left → MovesOn old new left rest → new.more ≡ false → IsAtEnd start rest
+  filled_end passed keeper kept old new None left rest has moves none = tt
+  filled_end passed keeper kept old new (Some all) None rest has moves none = absurd has.lots
+  filled_end passed keeper kept old new (Some all) (Some bytes) None has moves none = moves
+  filled_end passed keeper kept old new (Some all) (Some bytes) (Some later) has moves none = moves.1 has.ended none
 
-  pub filled : (passed : Passed) (keeper : K) (before old new : List ℕ) (more : Bool) (start left rest : Option (List ℕ))
-      → HasLots after limits first passed keeper (before ++ old) start left → MovesBytes old new more left rest
-      → HasCome after limits first passed keeper (before ++ new) more start rest
-  filled passed keeper before old new more start left rest has moves = record {
-    lots = filled_lines passed keeper before old new more start left rest has moves;
-    ended = filled_end passed keeper (before ++ old) old new more start left rest has moves;
+  pub filled : (passed : Passed) (keeper : K) (before : List ℕ) (old new : Ahead) (start left rest : Option (List ℕ))
+      → HasCome after limits first passed keeper (before ++ old.kept.items) old.more start left → MovesOn old new left rest
+      → HasCome after limits first passed keeper (before ++ new.kept.items) new.more start rest
+  filled passed keeper before old new start left rest has moves = record {
+    lots = filled_lines passed keeper before old new start left rest has.lots moves;
+    ended = filled_end passed keeper (before ++ old.kept.items) old new start left rest has moves;
   }
 
   -- of the lot that waits lines are taken
@@ -209,36 +220,77 @@ module _ {K : Type 0} (after : K → Entry → K) (limits : LimitNumbers) (first
   taken old given new keeper bytes kept more used start left has takes =
       record { lots = taken_lines old given new keeper bytes kept used start left has.lots takes; ended = has.ended }
 
+  -- a lot is taken out of the bytes that were read ahead, more is read, and lines of the one that waits are taken; of both so much waits
+
+  pub turned : (old : Passed) (given : K) (new last : Passed) (keeper : K) (bytes lot kept waits rest : List ℕ) (more : Bool) (before now next : Ahead)
+      (used : ℕ) (start left later : Option (List ℕ)) → HasCome after limits first old given (bytes ++ kept) more start left
+      → before.more ≡ more → lot ++ before.kept.items ≡ kept → MovesOn before now left later
+      → TakesLines after limits old given (take used bytes) new keeper [] → waits ++ rest ≡ drop used bytes ++ lot → last ≡ new
+      → next.more ≡ now.more → next.kept.items ≡ rest ++ now.kept.items
+      → HasCome after limits first last keeper (waits ++ next.kept.items) next.more start later
+  turned old given new last keeper bytes lot kept waits rest more before now next used start left later has same cut moves takes all is ends behind =
+      let ahead = now.kept.items in
+      let whole = ap (λ own. bytes ++ own) (sym cut) ∙ sym (append_assoc bytes lot before.kept.items) in
+      let read = filled old given (bytes ++ lot) before now start left later
+      (subst (λ (own : List ℕ × Bool). HasCome after limits first old given own.0 own.1 start left) (λ i. (whole i, sym same i)) has) moves in
+      let apart = append_assoc bytes lot ahead in
+      let given_now = taken old given new keeper bytes (lot ++ ahead) now.more used start later
+      (subst (λ (own : List ℕ). HasCome after limits first old given own now.more start later) apart read) takes in
+      let after_all = sym (append_assoc (drop used bytes) lot ahead) ∙ ap (λ own. own ++ ahead) (sym all) ∙ append_assoc waits rest ahead
+      ∙ ap (λ own. waits ++ own) (sym behind) in
+      subst (λ (own : Passed × List ℕ × Bool). HasCome after limits first own.0 keeper own.1 own.2 start later)
+      (λ i. (sym is i, after_all i, sym ends i)) given_now
+
+  -- nothing is read yet
+
+  pub new_there : (lot : ℕ) (reader : LotReader) → IsNew lot reader → (left : Option (List ℕ)) → IsThere after limits first reader first left left
+  new_there lot reader new left = record {
+    lots = lots_none reader.waiting.passed (all_kept reader) new.passed (ap (λ own. own ++ reader.ahead.kept.items) new.bytes ∙ new.kept) left;
+    ended = λ none. let more = new.more in absurd (cc);
+  }
+
+pub new_reads : {K : Type 0} (takes : K → KeyOf → Type 0) (limits : LimitNumbers) (lot : ℕ) (reader : LotReader) (keeper : K) → IsNew lot reader
+    → TakesNext takes None keeper → IsReading takes limits reader keeper
+new_reads takes limits lot reader keeper new next = record {
+  workers = new.workers;
+  room = new.room;
+  goes = subst (λ (own : Passed). GoesOn takes limits own keeper) (sym new.passed)
+      (record { lines = omega arith; entries = omega arith; next = next });
+  shares = subst (λ (own : List Share). AreShares limits reader.waiting.bytes.items own) (sym new.shares) tt;
+  few = omega (arith, ap length new.bytes);
+  next = omega (arith, ap length new.kept);
+}
+
 -- one reader goes on
 
 module _ {K : Type 0} (after : K → Entry → K) (limits : LimitNumbers) (whole : K) (reader : LotReader) (given : K) (first : Progress)
-    (behind : (bytes : List ℕ) → entries_left limits first bytes ≡ entries_from limits reader.passed (lines_of bytes)) where
-  begins : (all bytes : List ℕ) (has : HasLines after limits whole reader.passed given reader.kept.items all bytes) (rest : List ℕ)
+    (behind : (bytes : List ℕ) → entries_left limits first bytes ≡ entries_from limits reader.waiting.passed (lines_of bytes)) where
+  begins : (all bytes : List ℕ) (has : HasLines after limits whole reader.waiting.passed given reader.ahead.kept.items all bytes) (rest : List ℕ)
       → kept_all after whole (entries_of limits (has.front ++ rest)) ≡ kept_all after given (entries_left limits first rest)
   begins all bytes has rest = has.same rest ∙ ap (kept_all after given) (sym (behind rest))
 
   pub goes_on : (progress : Progress) (now : K) → ((later : List ℕ)
-      → kept_all after given (entries_left limits first (reader.kept.items ++ later)) ≡ kept_all after now (entries_left limits progress later))
-      → (start left : Option (List ℕ)) → HasLots after limits whole reader.passed given reader.kept.items start left
+      → kept_all after given (entries_left limits first (reader.ahead.kept.items ++ later)) ≡ kept_all after now (entries_left limits progress later))
+      → (start left : Option (List ℕ)) → HasLots after limits whole reader.waiting.passed given reader.ahead.kept.items start left
       → HasRead after limits whole progress now start left
   goes_on progress now takes None left has = tt
   goes_on progress now takes (Some all) None has = has
   goes_on progress now takes (Some all) (Some bytes) has = record {
-    front = has.front ++ reader.kept.items;
-    parts = has.parts ∙ sym (append_assoc has.front reader.kept.items bytes);
-    same = λ rest. ap (λ own. kept_all after whole (entries_of limits own)) (append_assoc has.front reader.kept.items rest)
-        ∙ begins all bytes has (reader.kept.items ++ rest) ∙ takes rest;
+    front = has.front ++ reader.ahead.kept.items;
+    parts = has.parts ∙ sym (append_assoc has.front reader.ahead.kept.items bytes);
+    same = λ rest. ap (λ own. kept_all after whole (entries_of limits own)) (append_assoc has.front reader.ahead.kept.items rest)
+        ∙ begins all bytes has (reader.ahead.kept.items ++ rest) ∙ takes rest;
   }
 
   pub stops_on : (fault : FileFault) → ((later : List ℕ)
-      → kept_all after given (entries_left limits first (reader.kept.items ++ later)) ≡ Err fault)
-      → (start left : Option (List ℕ)) → HasLots after limits whole reader.passed given reader.kept.items start left
+      → kept_all after given (entries_left limits first (reader.ahead.kept.items ++ later)) ≡ Err fault)
+      → (start left : Option (List ℕ)) → HasLots after limits whole reader.waiting.passed given reader.ahead.kept.items start left
       → IsFaultOf limits start fault
   stops_on fault stops None left has = tt
   stops_on fault stops (Some all) None has = absurd has
   stops_on fault stops (Some all) (Some bytes) has =
       kept_all-err after whole (entries_of limits all) fault
-      (ap (λ own. kept_all after whole (entries_of limits own)) has.parts ∙ begins all bytes has (reader.kept.items ++ bytes) ∙ stops bytes)
+      (ap (λ own. kept_all after whole (entries_of limits own)) has.parts ∙ begins all bytes has (reader.ahead.kept.items ++ bytes) ∙ stops bytes)
 
 module _ {K : Type 0} (after : K → Entry → K) (limits : LimitNumbers) (whole : K) (progress : Progress) (now : K) where
   pub ends_well : (last : K) → kept_all after now (entries_left limits progress []) ≡ Ok last

@@ -1,18 +1,19 @@
 -- A file that is read by lots: the lines of each are read side by side, and put behind those before.
 -- So at each moment the whole file comes to what the lines that were taken come to with all that is behind them (`HasLines`): the bytes
 -- that are kept, of which no line was taken yet, and those that are left in the file.
-use Rattle.std.specs.Prelude.{◌≡◌, ◌≤◌, ◌<◌, ℕ, ◌+◌, ◌*◌, List, [], ◌++◌, length, Option, Bool, false}
+use Rattle.std.specs.Prelude.{◌≡◌, ◌≤◌, ◌<◌, ℕ, ◌*◌, List, [], ◌++◌, length, take, Option, Bool, false, true}
 use Rattle.osm_base.specs.declared.bounds.limits.LimitNumbers.{LimitNumbers}
 use Rattle.osm_base.specs.declared.values.object.Entry.{Entry}
 use Rattle.osm_base.specs.values.Key.{KeyOf}
 use Rattle.outside.specs.Bytes.{BothKnown}
+use Rattle.object_fold.specs.declared.ahead.Ahead.{Ahead}
 use Rattle.object_fold.specs.declared.lots.LotReader.{LotReader}
 use Rattle.object_fold.specs.declared.passed.Passed.{Passed}
-use Rattle.object_fold.specs.declared.scan.TheConstants.{PIECE}
 use Rattle.object_fold.specs.declared.waiting.Waiting.{Waiting}
+use Rattle.object_fold.specs.Ahead.{HasRoom, most_of_lot}
 use Rattle.object_fold.specs.Entries.{entries_of}
 use Rattle.object_fold.specs.Keeps.{kept_all}
-use Rattle.object_fold.specs.Parts.{AreShares, GoesOn, keeps_to}
+use Rattle.object_fold.specs.Parts.{AreShares, GoesOn, TakesLines, keeps_to, none_passed}
 use Rattle.object_fold.specs.Reading.{LeavesOpen}
 
 -- of these bytes those that come later were not read: so many at most were behind bytes that left each fault open
@@ -26,11 +27,6 @@ pub record StopsWithin (most : ℕ) (limits : LimitNumbers) (bytes later : List 
 -- the file was read no further than so many bytes behind the last that left each fault open
 abbrev pub ReadsNoFurtherThan : ℕ → LimitNumbers → Option (List ℕ) → Option (List ℕ) → Type 0
 ReadsNoFurtherThan most limits left rest = BothKnown left rest (λ bytes later. StopsWithin most limits bytes later)
-
--- behind bytes that are kept some were read, with those so many at most
-abbrev pub ReadsBehind : ℕ → List ℕ → Option (List ℕ) → Option (List ℕ) → Type 0
-ReadsBehind most kept left rest =
-    BothKnown left rest (λ bytes later. (piece : List ℕ) × (kept ++ bytes ≡ piece ++ later) × (length piece ≤ most))
 
 -- of the bytes of a file these lines were taken, behind them these bytes are kept, and the later ones are not read: the file makes of the
 -- first keeper what the rest of it makes of this one
@@ -56,31 +52,57 @@ pub record HasCome {K : Type 0} (after : K → Entry → K) (limits : LimitNumbe
   pub ended : more ≡ false → IsAtEnd left rest
 
 -- the bytes of the lot that waits, and then those that were read behind it
-abbrev pub all_kept : Waiting → LotReader → List ℕ
-all_kept waiting reader = waiting.bytes.items ++ reader.kept.items
+abbrev pub all_kept : LotReader → List ℕ
+all_kept reader = reader.waiting.bytes.items ++ reader.ahead.kept.items
 
--- the most bytes of a lot
-abbrev pub most_of_lot : LotReader → ℕ
-most_of_lot reader = reader.lot + PIECE
+-- so far a reader has come
+abbrev pub IsThere : {K : Type 0} → (K → Entry → K) → LimitNumbers → K → LotReader → K → Option (List ℕ) → Option (List ℕ) → Type 0
+IsThere after limits first reader keeper left rest =
+    HasCome after limits first reader.waiting.passed keeper (all_kept reader) reader.ahead.more left rest
 
--- the most bytes that are kept: those of two lots
+-- the most bytes that are kept: those of the lot that waits, of the one that is read, and of the next
 abbrev pub most_kept : LotReader → ℕ
-most_kept reader = 2 * most_of_lot reader
+most_kept reader = 3 * most_of_lot reader.ahead
 
--- there are workers, room for a read, and no more bytes than there may be
-pub record IsAtWork (reader : LotReader) : Type 0 where
+-- nothing is read yet
+pub record IsNew (lot : ℕ) (reader : LotReader) : Type 0 where
   pub workers : 0 < reader.workers
-  pub some : 0 < length reader.buffer.items
-  pub room : length reader.buffer.items ≤ PIECE
-  pub few : length reader.kept.items ≤ most_kept reader
+  pub room : HasRoom reader.ahead
+  pub size : reader.ahead.lot ≡ lot
+  pub more : reader.ahead.more ≡ true
+  pub kept : reader.ahead.kept.items ≡ []
+  pub bytes : reader.waiting.bytes.items ≡ []
+  pub shares : reader.waiting.shares.items ≡ []
+  pub passed : reader.waiting.passed ≡ none_passed
 
--- it is at work, and a keeper may be given the entries behind the lines that were passed
-pub record IsReading {K : Type 0} (takes : K → KeyOf → Type 0) (limits : LimitNumbers) (reader : LotReader) (keeper : K) : Type 0 where
-  pub work : IsAtWork reader
-  pub goes : GoesOn takes limits reader.passed keeper
-
--- of a lot that waits these are the shares, and neither it nor the one behind it is longer than a lot
-pub record Waits (limits : LimitNumbers) (waiting : Waiting) (reader : LotReader) : Type 0 where
+-- a keeper may be given the entries of the lot that waits, and the next one be read ahead
+pub record IsReady {K : Type 0} (takes : K → KeyOf → Type 0) (limits : LimitNumbers) (waiting : Waiting) (keeper : K) (ahead : Ahead) : Type 0 where
+  pub goes : GoesOn takes limits waiting.passed keeper
   pub shares : AreShares limits waiting.bytes.items waiting.shares.items
-  pub few : length waiting.bytes.items ≤ most_of_lot reader
-  pub next : length reader.kept.items ≤ most_of_lot reader
+  pub room : HasRoom ahead
+  pub few : length ahead.kept.items ≤ most_of_lot ahead
+
+-- of a lot that waited so many bytes were taken, and no share waits any longer
+pub record Gives {K : Type 0} (takes : K → KeyOf → Type 0) (after : K → Entry → K) (limits : LimitNumbers) (old : Waiting) (before : K)
+    (used : ℕ) (new : Waiting) (now : K) : Type 0 where
+  pub bytes : new.bytes.items ≡ old.bytes.items
+  pub none : new.shares.items ≡ []
+  pub within : used ≤ length old.bytes.items
+  pub lines : TakesLines after limits old.passed before (take used old.bytes.items) new.passed now []
+  pub goes : GoesOn takes limits new.passed now
+
+-- there are workers and room for a read, a keeper may be given the entries behind the lines that were taken, the lot that waits has its
+-- shares, and there are no more bytes than may be
+pub record IsReading {K : Type 0} (takes : K → KeyOf → Type 0) (limits : LimitNumbers) (reader : LotReader) (keeper : K) : Type 0 where
+  pub workers : 0 < reader.workers
+  pub room : HasRoom reader.ahead
+  pub goes : GoesOn takes limits reader.waiting.passed keeper
+  pub shares : AreShares limits reader.waiting.bytes.items reader.waiting.shares.items
+  pub few : length reader.waiting.bytes.items ≤ most_of_lot reader.ahead
+  pub next : length reader.ahead.kept.items ≤ 2 * most_of_lot reader.ahead
+
+-- no lot waits, and one reader may go on behind the lines that were taken
+pub record IsSettled {K : Type 0} (takes : K → KeyOf → Type 0) (limits : LimitNumbers) (reader : LotReader) (keeper : K) : Type 0 where
+  pub room : HasRoom reader.ahead
+  pub goes : GoesOn takes limits reader.waiting.passed keeper
+  pub few : length reader.ahead.kept.items ≤ most_kept reader

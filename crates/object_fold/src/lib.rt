@@ -14,6 +14,7 @@
 //! without the index, while nobody asks for it; `into_objects` lists them.
 #![tactic(auto)]
 
+mod ahead;
 mod change;
 mod fault;
 mod keeper;

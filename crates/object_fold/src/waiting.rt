@@ -1,22 +1,31 @@
 //! A lot of a file whose lines were read, and wait to be put behind those before.
-ghost use Rattle.std.specs.Prelude.{◌≡◌, ◌<◌, ◌≤◌, ◌++◌, List, ℕ, [], IfOk, OnOk, length, take, drop};
+ghost use Rattle.std.specs.Prelude.{◌≡◌, ◌<◌, ◌≤◌, ◌∷◌, ◌++◌, ℕ, [], IfOk, IfErr, OnOk, flat_map, length, drop};
 ghost use Rattle.std.specs.List.{AllZip};
 ghost use Rattle.std.specs.Thread.{IsSync};
 ghost use Rattle.osm_base.specs.declared.bounds.limits.LimitNumbers.{LimitNumbers};
-ghost use Rattle.object_fold.specs.Parts.{AreShares, GoesOn, IsShareOf, TakesLines, bytes_in};
+ghost use Rattle.outside.specs.Causes.{Rose};
+ghost use Rattle.object_fold.specs.Ahead.{Fills, ReadsBehind, most_of_lot};
+ghost use Rattle.object_fold.specs.Lots.{Gives, IsReady};
+ghost use Rattle.object_fold.specs.Parts.{AreShares, GoesOn, IsShareOf, bytes_in, none_passed};
+ghost use Rattle.object_fold.specs.Reading.{ReadsNoOther};
+ghost use Rattle.object_fold.specs.Stops.{Stops};
 
-use crate::Keeper;
+use crate::ahead::Ahead;
 use crate::parts::{Share, give_shares, read_share};
 use crate::passed::Passed;
 use crate::share_out::{leave_out, piece_end, pieces_of};
+use crate::{FileFault, Keeper};
 use osm_base::{Entry, Limits, OutOfMemory};
+use outside::Inputs;
 use std::alloc::Global;
 use std::mem;
 use std::thread::{Threads, join_mut};
 
-/// Bytes of which no line was taken yet, and their shares. No lot waits: both are empty.
+/// The lines that were taken, and bytes behind them of which no line was taken yet, and their shares. No lot waits: both are empty.
 #[derive(Drop)]
 pub struct Waiting {
+    pub alloc: Global,
+    pub passed: Passed,
     pub bytes: Vec<u8>,
     pub shares: Vec<Share>,
     /// What the keeper has not kept of the lot before.
@@ -24,12 +33,15 @@ pub struct Waiting {
 }
 
 impl Waiting {
-    /// No lot.
+    /// No lot, and no line before it.
     pub fn new(alloc: Global) -> Self
+        ensures passed { result.passed ≡ none_passed }
         ensures bytes { result.bytes.items ≡ [] }
         ensures shares { result.shares.items ≡ [] }
     {
         Self {
+            alloc,
+            passed: Passed::new(),
             bytes: Vec::new(alloc),
             shares: Vec::new(alloc),
             left: Vec::new(alloc),
@@ -38,24 +50,50 @@ impl Waiting {
 
     /// Gives a keeper the entries of the shares, up to the first that may not stand behind the lines that were passed, and answers how
     /// many bytes were taken. No share waits any longer.
-    pub fn give<K: Keeper>(
-        &mut self,
-        alloc: Global,
-        limits: &Limits,
-        passed: &mut Passed,
-        keeper: &mut K,
-    ) -> Result<usize, OutOfMemory>
-        requires goes { GoesOn K.takes limits.now passed.old keeper.old }
+    pub fn give<K: Keeper>(&mut self, limits: &Limits, keeper: &mut K) -> Result<usize, OutOfMemory>
+        requires goes { GoesOn K.takes limits.now self.old.passed keeper.old }
         requires shares { AreShares limits.now self.old.bytes.items self.old.shares.items }
-        ensures bytes { self.new.bytes ≡ self.old.bytes }
-        ensures none { self.new.shares.items ≡ [] }
-        ensures within { IfOk result (λ used. used ≤ length self.old.bytes.items) }
-        ensures lines { IfOk result (λ used.
-            TakesLines K.after limits.now passed.old keeper.old (take used self.old.bytes.items) passed.new keeper.new []) }
-        ensures goes { OnOk result (GoesOn K.takes limits.now passed.new keeper.new) }
+        ensures given { IfOk result (λ used. Gives K.takes K.after limits.now self.old keeper.old used self.new keeper.new) }
     {
-        let shares = mem::replace(&mut self.shares, Vec::new(alloc));
-        give_shares(limits, passed, keeper, &self.bytes, shares, &mut self.left)
+        let shares = mem::replace(&mut self.shares, Vec::new(self.alloc));
+        give_shares(
+            limits,
+            &mut self.passed,
+            keeper,
+            &self.bytes,
+            shares,
+            &mut self.left,
+        )
+    }
+
+    /// Lets a lot wait with its shares, up to where these end, if none waits. What does not wait, in the room of the lot before.
+    pub fn put_aside(
+        &mut self,
+        mut lot: Vec<u8>,
+        shares: Vec<Share>,
+    ) -> Result<Vec<u8>, OutOfMemory>
+        requires none { self.old.shares.items ≡ [] }
+        requires few { bytes_in shares.items ≤ length lot.items }
+        ensures passed { OnOk result (self.new.passed ≡ self.old.passed) }
+        ensures bytes { IfOk result (λ rest. self.new.bytes.items ++ rest.items ≡ self.old.bytes.items ++ lot.items) }
+        ensures shares { OnOk result ((limits : LimitNumbers) → AreShares limits lot.items shares.items
+            → AreShares limits self.new.bytes.items self.new.shares.items) }
+        ensures few { OnOk result ((most : ℕ) → length self.old.bytes.items ≤ most → length lot.items ≤ most
+            → length self.new.bytes.items ≤ most) }
+        ensures less { IfOk result (λ rest. length rest.items ≤ length lot.items) }
+    {
+        // A share may not stand where it would: one reader goes on from there.
+        if !self.bytes.is_empty() {
+            return Ok(lot);
+        }
+        let rest = behind(&lot, &shares);
+        let covered = lot.len() - rest.len();
+        let mut room = mem::replace(&mut self.bytes, Vec::new(self.alloc));
+        room.extend_from_slice(rest)?;
+        lot.truncate(covered);
+        self.bytes = lot;
+        self.shares = shares;
+        Ok(room)
     }
 }
 
@@ -73,26 +111,7 @@ pub fn behind<'a>(bytes: &'a [u8], shares: &[Share]) -> &'a [u8]
     rest
 }
 
-/// These shares behind the first, which is one of these bytes, or no share where memory runs out.
-fn behind_first(alloc: Global, bytes: &[u8], first: Share, mut more: Vec<Share>) -> Vec<Share>
-    ensures shares { (limits : LimitNumbers) (rest : List ℕ) → IsShareOf limits bytes.now first → AreShares limits rest more.items
-        → AreShares limits (bytes.now ++ rest) result.items }
-{
-    let whole = first.len == bytes.len();
-    let mut shares = Vec::new(alloc);
-    let Ok(()) = shares.push(first) else {
-        return Vec::new(alloc);
-    };
-    if !whole {
-        return shares;
-    }
-    let Ok(()) = shares.append(&mut more) else {
-        return Vec::new(alloc);
-    };
-    shares
-}
-
-/// How many bytes of a lot are read by the worker that gives the entries of the lot before it, if there is one.
+/// How many bytes of a lot are read by the worker that gives the entries of the lot before it, if there is one, and reads the next ahead.
 fn own_len(lot: usize, workers: u32, is_first: bool) -> usize
     requires workers { 0 < workers }
 {
@@ -116,46 +135,96 @@ fn emptied(alloc: Global, garbage: &mut [Vec<Entry>]) -> Vec<Entry>
     room
 }
 
-/// Reads each of these pieces of a lot by a thread of its own, while this one gives a keeper the entries of the lot that waits and then
-/// reads the front. Before that each lets go of one share of the garbage. How many bytes of the one that waited were taken, the share of
-/// the front, and those of the pieces.
-fn read_with_others<R: Threads + Sync, K: Keeper>(
-    rt: &R,
-    alloc: Global,
+/// This share alone.
+fn one_share(alloc: Global, share: Share) -> Result<Vec<Share>, OutOfMemory>
+    ensures one { IfOk result (λ shares. shares.items ≡ share ∷ []) }
+{
+    let mut shares = Vec::new(alloc);
+    shares.push(share)?;
+    Ok(shares)
+}
+
+/// A lot in pieces, one for each worker. The first is for the one that gives what waits to the keeper.
+fn pieces_beside<'a>(
+    waiting: &Waiting,
+    bytes: &'a [u8],
+    workers: u32,
+    lot: usize,
+) -> Result<Vec<&'a [u8]>, OutOfMemory>
+    requires workers { 0 < workers }
+    ensures whole { IfOk result (λ pieces. flat_map (λ piece. piece.now) pieces.items ≡ bytes.now) }
+{
+    let own = own_len(lot, workers, waiting.shares.is_empty());
+    let (front, rest) = bytes.split_at(piece_end(bytes, own));
+    let others = (workers - 1).max(1);
+    let least = lot.saturating_sub(own) / others as usize;
+    let mut pieces = Vec::new(waiting.alloc);
+    pieces.push(front)?;
+    pieces.append(&mut pieces_of(waiting.alloc, rest, others, least)?)?;
+    Ok(pieces)
+}
+
+/// Gives a keeper the entries of the lot that waits, and reads the next one ahead. How many bytes of the one that waited were taken.
+fn give_and_fill<I: Inputs, K: Keeper>(
     limits: &Limits,
-    front: &[u8],
+    waiting: &mut Waiting,
+    keeper: &mut K,
+    ahead: &mut Ahead,
+    inputs: &mut I,
+    file: u32,
+) -> Result<usize, FileFault>
+    requires ready { IsReady K.takes limits.now waiting.old keeper.old ahead.old }
+    ensures given { IfOk result (λ used. Gives K.takes K.after limits.now waiting.old keeper.old used waiting.new keeper.new) }
+    ensures filled { OnOk result (Fills ahead.old ahead.new ((I.view inputs.old).left file) ((I.view inputs.new).left file)) }
+    ensures left { ReadsBehind (most_of_lot ahead.old) ahead.old.kept.items
+        ((I.view inputs.old).left file) ((I.view inputs.new).left file) }
+    ensures stopped { IfErr result (Stops (λ _. ⊥) (Rose (I.view inputs.old).faults (I.view inputs.new).faults)) }
+    ensures read { ReadsNoOther file (λ asked. I.reads inputs.old asked inputs.new) (I.view inputs.old) (I.view inputs.new) }
+{
+    let used = waiting.give(limits, keeper)?;
+    ahead.fill(inputs, file)?;
+    Ok(used)
+}
+
+/// Reads each of these pieces of a lot, all but the first by a thread of its own, while this one gives a keeper the entries of the lot that
+/// waits, reads the next one ahead, and then reads the first. Before that each lets go of one share of the garbage. How many bytes of the
+/// one that waited were taken, and the shares of the pieces.
+fn read_with_others<I: Inputs, R: Threads + Sync, K: Keeper>(
+    rt: &R,
+    limits: &Limits,
     pieces: &[&[u8]],
     garbage: &mut [Vec<Entry>],
     waiting: &mut Waiting,
-    passed: &mut Passed,
     keeper: &mut K,
-) -> (
-    Result<usize, OutOfMemory>,
-    Share,
-    Result<Vec<Share>, OutOfMemory>,
-)
-    requires goes { GoesOn K.takes limits.now passed.old keeper.old }
-    requires waits { AreShares limits.now waiting.old.bytes.items waiting.old.shares.items }
-    ensures bytes { waiting.new.bytes ≡ waiting.old.bytes }
-    ensures none { waiting.new.shares.items ≡ [] }
-    ensures given { IfOk result.0 (λ used. (used ≤ length waiting.old.bytes.items)
-        × TakesLines K.after limits.now passed.old keeper.old (take used waiting.old.bytes.items) passed.new keeper.new []
-        × GoesOn K.takes limits.now passed.new keeper.new) }
-    ensures first { IsShareOf limits.now front.now result.1 }
-    ensures shares { IfOk result.2 (λ shares. AllZip (λ piece share. IsShareOf limits.now piece.now share) pieces.now shares.items) }
+    ahead: &mut Ahead,
+    inputs: &mut I,
+    file: u32,
+) -> (Result<usize, FileFault>, Result<Vec<Share>, OutOfMemory>)
+    requires ready { IsReady K.takes limits.now waiting.old keeper.old ahead.old }
+    ensures given { IfOk result.0 (λ used. Gives K.takes K.after limits.now waiting.old keeper.old used waiting.new keeper.new) }
+    ensures filled { OnOk result.0 (Fills ahead.old ahead.new ((I.view inputs.old).left file) ((I.view inputs.new).left file)) }
+    ensures left { ReadsBehind (most_of_lot ahead.old) ahead.old.kept.items
+        ((I.view inputs.old).left file) ((I.view inputs.new).left file) }
+    ensures stopped { IfErr result.0 (Stops (λ _. ⊥) (Rose (I.view inputs.old).faults (I.view inputs.new).faults)) }
+    ensures read { ReadsNoOther file (λ asked. I.reads inputs.old asked inputs.new) (I.view inputs.old) (I.view inputs.new) }
+    ensures shares { IfOk result.1 (λ shares. AllZip (λ piece share. IsShareOf limits.now piece.now share) pieces.now shares.items) }
 {
+    let alloc = waiting.alloc;
     let Some((last, others)) = pieces.split_last() else {
+        let given = give_and_fill(limits, waiting, keeper, ahead, inputs, file);
+        return (given, Ok(Vec::new(alloc)));
+    };
+    if others.is_empty() {
         let room = emptied(alloc, garbage);
-        let given = waiting.give(alloc, limits, passed, keeper);
+        let given = give_and_fill(limits, waiting, keeper, ahead, inputs, file);
         return (
             given,
-            read_share(alloc, limits, front, room),
-            Ok(Vec::new(alloc)),
+            one_share(alloc, read_share(alloc, limits, *last, room)),
         );
-    };
+    }
     let (rest, own) = garbage.split_at_mut(garbage.len().saturating_sub(1));
     // Threads that are made by new threads wait behind these on one processor, so this one makes them all.
-    let (share, (given, first, read)) = join_mut(
+    let (share, (given, read)) = join_mut(
         rt,
         &mut || -> Share
             ensures { IsShareOf limits.entry.now last.entry.now.now result }
@@ -163,83 +232,69 @@ fn read_with_others<R: Threads + Sync, K: Keeper>(
             let room = emptied(alloc, own);
             read_share(alloc, limits, *last, room)
         },
-        &mut || -> (
-            Result<usize, OutOfMemory>,
-            Share,
-            Result<Vec<Share>, OutOfMemory>,
-        )
-            requires { IsSync R.row × GoesOn K.takes limits.now passed.now keeper.now
-                × AreShares limits.now waiting.now.bytes.items waiting.now.shares.items }
-            ensures { (waiting.exit.now.bytes ≡ waiting.entry.now.bytes)
-                × (waiting.exit.now.shares.items ≡ [])
-                × IfOk result.0 (λ used. (used ≤ length waiting.entry.now.bytes.items)
-                × TakesLines K.after limits.entry.now passed.entry.now keeper.entry.now (take used waiting.entry.now.bytes.items) passed.exit.now keeper.exit.now []
-                × GoesOn K.takes limits.entry.now passed.exit.now keeper.exit.now)
-                × IsShareOf limits.entry.now front.entry.now result.1
-                × IfOk result.2 (λ shares. AllZip (λ piece share. IsShareOf limits.entry.now piece.now share) others.entry.now shares.items) }
+        &mut || -> (Result<usize, FileFault>, Result<Vec<Share>, OutOfMemory>)
+            requires { IsSync R.row × IsReady K.takes limits.now waiting.now keeper.now ahead.now }
+            ensures { IfOk result.0 (λ used. Gives K.takes K.after limits.entry.now waiting.entry.now keeper.entry.now used waiting.exit.now keeper.exit.now)
+                × OnOk result.0 (Fills ahead.entry.now ahead.exit.now ((I.view inputs.entry.now).left file) ((I.view inputs.exit.now).left file))
+                × ReadsBehind (most_of_lot ahead.entry.now) ahead.entry.now.kept.items
+                ((I.view inputs.entry.now).left file) ((I.view inputs.exit.now).left file)
+                × IfErr result.0 (Stops (λ _. ⊥) (Rose (I.view inputs.entry.now).faults (I.view inputs.exit.now).faults))
+                × ReadsNoOther file (λ asked. I.reads inputs.entry.now asked inputs.exit.now) (I.view inputs.entry.now) (I.view inputs.exit.now)
+                × IfOk result.1 (λ shares. AllZip (λ piece share. IsShareOf limits.entry.now piece.now share) others.entry.now shares.items) }
         {
             read_with_others(
-                rt, alloc, limits, front, others, rest, waiting, passed, keeper,
+                rt, limits, others, rest, waiting, keeper, ahead, inputs, file,
             )
         },
     );
     let Ok(mut shares) = read else {
-        return (given, first, Err(OutOfMemory));
+        return (given, Err(OutOfMemory));
     };
     match shares.push(share) {
-        Ok(()) => (given, first, Ok(shares)),
-        Err(_) => (given, first, Err(OutOfMemory)),
+        Ok(()) => (given, Ok(shares)),
+        Err(_) => (given, Err(OutOfMemory)),
     }
 }
 
-/// Reads a lot by so many workers, of whom one first gives a keeper the entries of the lot that waits. How many bytes of the one that
-/// waited were taken, and the shares of the other.
-pub fn read_beside<R: Threads + Sync, K: Keeper>(
+/// Reads a lot by so many workers, of whom one first gives a keeper the entries of the lot that waits and reads the next one ahead. How
+/// many bytes of the one that waited were taken, and the shares of the other.
+pub fn read_beside<I: Inputs, R: Threads + Sync, K: Keeper>(
     rt: &R,
-    alloc: Global,
     limits: &Limits,
     bytes: &[u8],
     workers: u32,
-    lot: usize,
     waiting: &mut Waiting,
-    passed: &mut Passed,
     keeper: &mut K,
-) -> Result<(usize, Vec<Share>), OutOfMemory>
+    ahead: &mut Ahead,
+    inputs: &mut I,
+    file: u32,
+) -> Result<(usize, Vec<Share>), FileFault>
     requires workers { 0 < workers }
-    requires goes { GoesOn K.takes limits.now passed.old keeper.old }
-    requires waits { AreShares limits.now waiting.old.bytes.items waiting.old.shares.items }
-    ensures bytes { waiting.new.bytes ≡ waiting.old.bytes }
-    ensures none { waiting.new.shares.items ≡ [] }
-    ensures within { IfOk result (λ read. read.0 ≤ length waiting.old.bytes.items) }
-    ensures lines { IfOk result (λ read.
-        TakesLines K.after limits.now passed.old keeper.old (take read.0 waiting.old.bytes.items) passed.new keeper.new []) }
-    ensures goes { OnOk result (GoesOn K.takes limits.now passed.new keeper.new) }
+    requires ready { IsReady K.takes limits.now waiting.old keeper.old ahead.old }
+    ensures given { IfOk result (λ read. Gives K.takes K.after limits.now waiting.old keeper.old read.0 waiting.new keeper.new) }
+    ensures filled { OnOk result (Fills ahead.old ahead.new ((I.view inputs.old).left file) ((I.view inputs.new).left file)) }
+    ensures left { ReadsBehind (most_of_lot ahead.old) ahead.old.kept.items
+        ((I.view inputs.old).left file) ((I.view inputs.new).left file) }
+    ensures stopped { IfErr result (Stops (λ _. ⊥) (Rose (I.view inputs.old).faults (I.view inputs.new).faults)) }
+    ensures read { ReadsNoOther file (λ asked. I.reads inputs.old asked inputs.new) (I.view inputs.old) (I.view inputs.new) }
     ensures shares { IfOk result (λ read. AreShares limits.now bytes.now read.1.items) }
 {
+    let pieces = pieces_beside(waiting, bytes, workers, ahead.lot)?;
     // Any thread may let go of it, so the readers of this lot share that work.
-    let mut garbage = mem::replace(&mut waiting.left, Vec::new(alloc));
-    let is_first = waiting.shares.is_empty();
-    let own = own_len(lot, workers, is_first);
-    let (front, rest) = bytes.split_at(piece_end(bytes, own));
-    let others = (workers - 1).max(1);
-    let least = lot.saturating_sub(own) / others as usize;
-    let Ok(pieces) = pieces_of(alloc, rest, others, least) else {
-        waiting.shares.clear();
-        return Err(OutOfMemory);
-    };
-    let (given, first, read) = read_with_others(
+    let mut garbage = mem::replace(&mut waiting.left, Vec::new(waiting.alloc));
+    let (given, read) = read_with_others(
         rt,
-        alloc,
         limits,
-        front,
         &pieces,
         &mut garbage,
         waiting,
-        passed,
         keeper,
+        ahead,
+        inputs,
+        file,
     );
-    let mut more = read?;
-    leave_out(&pieces, &mut more);
     let used = given?;
-    Ok((used, behind_first(alloc, front, first, more)))
+    let mut shares = read?;
+    leave_out(&pieces, &mut shares);
+    Ok((used, shares))
 }

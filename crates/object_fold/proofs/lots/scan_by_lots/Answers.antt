@@ -1,7 +1,7 @@
-use Rattle.std.proofs.Common.{◌+◌, ◌*◌, ◌∙◌, ℕ, rules, subst}
+use Rattle.std.proofs.Common.{◌+◌, ◌*◌, ◌∙◌, ℕ, arith, ap, length, rules, subst}
 use Rattle.object_fold.specs.declared.scan.TheConstants.{PIECE}
 use Rattle.object_fold.specs.Lots.{ReadsNoFurtherThan}
-use Rattle.object_fold.proofs.LotLaws.{at_start, lots_none, read_then}
+use Rattle.object_fold.proofs.LotLaws.{at_start, new_reads, new_there, read_then}
 use Rattle.object_fold.proofs.Pieces.{on_err}
 use Rattle.object_fold.proofs.lots.scan_by_lots.Goals as goal
 
@@ -11,17 +11,21 @@ returns-in_err-reader-clause-left g c =
 
 -- the lots
 
-pub returns-in_err-more-clause-left : goal.returns-in_err-more-clause-left
-returns-in_err-more-clause-left g c =
+pub read_lots-requires-clause-reading : goal.read_lots-requires-clause-reading
+read_lots-requires-clause-reading g c lifetimes lives =
+    new_reads g.K.Keeper.takes c.args.limits.now c.args.lot c.in_ok-reader.reader c.args.keeper.now c.in_ok-reader.ensures.new c.requires.takes
+
+pub read_lots-requires-clause-next : goal.read_lots-requires-clause-next
+read_lots-requires-clause-next g c lifetimes lives = omega (arith, ap length c.in_ok-reader.ensures.new.kept)
+
+pub returns-in_err-read_lots-clause-left : goal.returns-in_err-read_lots-clause-left
+returns-in_err-read_lots-clause-left g c =
     let limits = c.args.limits.now in
-    let first = c.args.keeper.now in
-    let reader = c.in_ok-reader.reader in
     let start = (g.I.Inputs.view c.args.inputs.now).left c.args.file in
-    let has = lots_none g.K.Keeper.after limits first reader.passed reader.kept.items c.in_ok-reader.ensures.passed
-    c.in_ok-reader.ensures.few start in
+    let there = new_there g.K.Keeper.after limits c.args.keeper.now c.args.lot c.in_ok-reader.reader c.in_ok-reader.ensures.new start in
     let rest = (g.I.Inputs.view c.read_lots.new.inputs).left c.args.file in
-    on_err c.from_residual-in_err-more.result _ (subst (λ (lot : ℕ). ReadsNoFurtherThan (2 * (lot + PIECE)) limits start rest)
-    c.in_ok-reader.ensures.lot (c.in_err-more.ensures.left first start has))
+    on_err c.from_residual-in_err-read_lots.result _ (subst (λ (lot : ℕ). ReadsNoFurtherThan (3 * (lot + PIECE)) limits start rest)
+    c.in_ok-reader.ensures.new.size (c.in_err-read_lots.ensures.left c.args.keeper.now start there))
 
 -- what is behind them
 
@@ -29,25 +33,21 @@ pub returns-in_err-finish-clause-stopped : goal.returns-in_err-finish-clause-sto
 returns-in_err-finish-clause-stopped g c =
     let limits = c.args.limits.now in
     let first = c.args.keeper.now in
-    let reader = c.in_ok-reader.reader in
     let start = (g.I.Inputs.view c.args.inputs.now).left c.args.file in
-    let has = lots_none g.K.Keeper.after limits first reader.passed reader.kept.items c.in_ok-reader.ensures.passed
-    c.in_ok-reader.ensures.few start in
-    let come = c.in_ok-more.ensures.lots first start has in
+    let come = c.in_ok-read_lots.ensures.lots first start
+    (new_there g.K.Keeper.after limits first c.args.lot c.in_ok-reader.reader c.in_ok-reader.ensures.new start) in
     search (rules, come)
 
 pub returns-in_err-finish-clause-left : goal.returns-in_err-finish-clause-left
 returns-in_err-finish-clause-left g c =
     let limits = c.args.limits.now in
     let first = c.args.keeper.now in
-    let reader = c.in_ok-reader.reader in
     let start = (g.I.Inputs.view c.args.inputs.now).left c.args.file in
-    let has = lots_none g.K.Keeper.after limits first reader.passed reader.kept.items c.in_ok-reader.ensures.passed
-    c.in_ok-reader.ensures.few start in
+    let come = c.in_ok-read_lots.ensures.lots first start
+    (new_there g.K.Keeper.after limits first c.args.lot c.in_ok-reader.reader c.in_ok-reader.ensures.new start) in
     let rest = (g.I.Inputs.view c.finish.new.inputs).left c.args.file in
-    on_err c.from_residual-in_err-finish.result _ (subst (λ (lot : ℕ). ReadsNoFurtherThan (2 * (lot + PIECE)) limits start rest)
-    (c.in_ok-more.ensures.lot ∙ c.in_ok-reader.ensures.lot)
-    (c.in_err-finish.ensures.left first start (c.in_ok-more.ensures.lots first start has).lots))
+    on_err c.from_residual-in_err-finish.result _ (subst (λ (lot : ℕ). ReadsNoFurtherThan (3 * (lot + PIECE)) limits start rest)
+    (c.in_ok-read_lots.ensures.lot ∙ c.in_ok-reader.ensures.new.size) (c.in_err-finish.ensures.left first start come))
 
 pub returns-in_err-finish-clause-read : goal.returns-in_err-finish-clause-read
 returns-in_err-finish-clause-read g c =
@@ -59,11 +59,9 @@ pub returns-clause-ok : goal.returns-clause-ok
 returns-clause-ok g c =
     let limits = c.args.limits.now in
     let first = c.args.keeper.now in
-    let reader = c.in_ok-reader.reader in
     let start = (g.I.Inputs.view c.args.inputs.now).left c.args.file in
-    let has = lots_none g.K.Keeper.after limits first reader.passed reader.kept.items c.in_ok-reader.ensures.passed
-    c.in_ok-reader.ensures.few start in
-    c.in_ok-finish.ensures.ok first start (c.in_ok-more.ensures.lots first start has)
+    c.in_ok-finish.ensures.ok first start (c.in_ok-read_lots.ensures.lots first start
+    (new_there g.K.Keeper.after limits first c.args.lot c.in_ok-reader.reader c.in_ok-reader.ensures.new start))
 
 pub returns-clause-read : goal.returns-clause-read
 returns-clause-read g c =

@@ -1,4 +1,4 @@
-use Rattle.std.proofs.Common.{rules, ◌≡◌, ◌++◌, ◌∙◌, ap, sym, subst, List, ℕ}
+use Rattle.std.proofs.Common.{rules, ◌∙◌, ap, sym, subst, List, ℕ}
 use Rattle.std.specs.Borrow.{Bor}
 use Rattle.std.specs.List.{AllZip}
 use Rattle.object_fold.specs.Parts.{AreShares, IsShareOf}
@@ -8,14 +8,8 @@ use Rattle.object_fold.proofs.waiting.read_beside.Goals as goal
 pub returns-clause-shares : goal.returns-clause-shares
 returns-clause-shares g c =
     let limits = c.args.limits.now in
-    let front = c.split_at.result.0.now in
-    let rest = c.split_at.result.1.now in
-    let whole : front ++ rest ≡ c.args.bytes.now = search rules in
     let pieces = c.deref.ensures.value ∙ sym c.deref-2.ensures.value in
-    let each : AllZip (λ (piece : Bor (List ℕ)) share. IsShareOf limits piece.now share) c.deref.result.now c.in_ok-more.more.items = search rules in
-    let more : AreShares limits rest c.leave_out.new.shares.items =
-    subst (λ bytes. AreShares limits bytes c.leave_out.new.shares.items) (ap bytes_of c.deref-2.ensures.value ∙ c.in-Ok.ensures.whole)
+    let each : AllZip (λ (piece : Bor (List ℕ)) share. IsShareOf limits piece.now share) c.deref.result.now c.in_ok-shares.shares.items = search rules in
+    subst (λ bytes. AreShares limits bytes c.leave_out.new.shares.items) (ap bytes_of c.deref-2.ensures.value ∙ c.in_ok-pieces.ensures.whole)
     (c.leave_out.ensures.shares limits (subst (λ (own : List (Bor (List ℕ))). AllZip
-    (λ (piece : Bor (List ℕ)) share. IsShareOf limits piece.now share) own c.in_ok-more.more.items) pieces each)) in
-    subst (λ bytes. AreShares limits bytes c.behind_first.result.items) whole
-    (c.behind_first.ensures.shares limits rest c.read_with_others-given.ensures.first more)
+    (λ (piece : Bor (List ℕ)) share. IsShareOf limits piece.now share) own c.in_ok-shares.shares.items) pieces each))

@@ -13,20 +13,20 @@ use Rattle.object_fold.proofs.lots.LotReader.finish.Goals as goal
 pub returns-in_err-take-clause-left : goal.returns-in_err-take-clause-left
 returns-in_err-take-clause-left g c =
     on_err c.from_residual.result _ (λ first start has.
-    lots_stop g.K.Keeper.after c.args.limits.now first c.args.self.passed c.args.keeper.now c.args.self.kept.items (most_kept c.args.self) start ((g.I.Inputs.view c.args.inputs.now).left c.args.file) has
-    c.requires.reading.work.few)
+    lots_stop g.K.Keeper.after c.args.limits.now first c.args.self.waiting.passed c.args.keeper.now c.args.self.ahead.kept.items (most_kept c.args.self) start ((g.I.Inputs.view c.args.inputs.now).left c.args.file) has.lots
+    c.requires.settled.few)
 
 -- the end of the file
 
 pub returns-in_err-finish-clause-left : goal.returns-in_err-finish-clause-left
 returns-in_err-finish-clause-left g c =
     on_err c.from_residual-in_err-finish.result _ (λ first start has.
-    lots_stop g.K.Keeper.after c.args.limits.now first c.args.self.passed c.args.keeper.now c.args.self.kept.items (most_kept c.args.self) start ((g.I.Inputs.view c.args.inputs.now).left c.args.file) has
-    c.requires.reading.work.few)
+    lots_stop g.K.Keeper.after c.args.limits.now first c.args.self.waiting.passed c.args.keeper.now c.args.self.ahead.kept.items (most_kept c.args.self) start ((g.I.Inputs.view c.args.inputs.now).left c.args.file) has.lots
+    c.requires.settled.few)
 
 pub returns-then-not-more-clause-ok : goal.returns-then-not-more-clause-ok
 returns-then-not-more-clause-ok g c = λ first start come.
-    let begun = λ (first : g.row.K.Denot) (start : Option (List ℕ)) (has : HasLots g.K.Keeper.after c.args.limits.now first c.args.self.passed c.args.keeper.now c.args.self.kept.items start
+    let begun = λ (first : g.row.K.Denot) (start : Option (List ℕ)) (has : HasLots g.K.Keeper.after c.args.limits.now first c.args.self.waiting.passed c.args.keeper.now c.args.self.ahead.kept.items start
     ((g.I.Inputs.view c.args.inputs.now).left c.args.file)).
     goes_on g.K.Keeper.after c.args.limits.now first c.args.self c.args.keeper.now c.behind-progress.result c.behind-progress.ensures.left c.take.new.self c.take.new.keeper
     (subst (λ (own : List ℕ). (later : List ℕ)
@@ -42,7 +42,7 @@ returns-then-not-more-clause-ok g c = λ first start come.
 pub loop-progress-init : goal.loop-progress-init
 loop-progress-init g c =
     let laws = g.met.I.Inputs g.world.𝓛 g.world.𝓜 g.world.𝓡 ((λ s x. x), (λ x. x), (λ x. x), λ x. x) in
-    let begun = λ (first : g.row.K.Denot) (start : Option (List ℕ)) (has : HasLots g.K.Keeper.after c.args.limits.now first c.args.self.passed c.args.keeper.now c.args.self.kept.items start
+    let begun = λ (first : g.row.K.Denot) (start : Option (List ℕ)) (has : HasLots g.K.Keeper.after c.args.limits.now first c.args.self.waiting.passed c.args.keeper.now c.args.self.ahead.kept.items start
     ((g.I.Inputs.view c.args.inputs.now).left c.args.file)).
     goes_on g.K.Keeper.after c.args.limits.now first c.args.self c.args.keeper.now c.behind-progress.result c.behind-progress.ensures.left c.take.new.self c.take.new.keeper
     (subst (λ (own : List ℕ). (later : List ℕ)
@@ -52,8 +52,8 @@ loop-progress-init g c =
     start ((g.I.Inputs.view c.args.inputs.now).left c.args.file) has in
     record {
       ready = c.in_ok-take.ensures.ready;
-      some = c.requires.reading.work.some;
-      room = c.requires.reading.work.room;
+      some = c.requires.settled.room.some;
+      room = c.requires.settled.room.room;
       read = begun;
       alone = read_never g.I.Inputs.reads g.I.Inputs.view c.args.file laws.reads_none c.args.inputs.now;
     }
@@ -65,7 +65,7 @@ returns-in_err-read_on-clause-left g c =
     on_err c.from_residual-in_err-read_on.result _ (λ first start has.
     no_further c.args.limits.now (most_kept c.args.self) start rest (omega arith)
     (stops_in_time g.K.Keeper.after c.args.limits.now first c.loop-progress.progress c.loop-progress.keeper start left rest
-    c.loop-progress.invariant.ready.ready (c.loop-progress.invariant.read first start has)
+    c.loop-progress.invariant.ready.ready (c.loop-progress.invariant.read first start has.lots)
     (reads_within (length c.deref_mut.result.now) PIECE left rest
     (omega (arith, ap length c.deref_mut.ensures.value, c.loop-progress.invariant.room)) c.in_err-read_on.ensures.left)))
 
@@ -102,7 +102,7 @@ returns-in_err-finish-2-clause-left g c =
     (stops_in_time g.K.Keeper.after c.args.limits.now first c.read_on.new.progress c.read_on.new.keeper start rest rest
     c.in_ok-read_on.ensures.ready.ready
     (read_more g.K.Keeper.after c.args.limits.now first c.loop-progress.progress c.loop-progress.keeper c.read_on.new.progress c.read_on.new.keeper
-    start left rest (c.loop-progress.invariant.read first start has) c.in_ok-read_on.ensures.piece) (reads_nothing PIECE rest)))
+    start left rest (c.loop-progress.invariant.read first start has.lots) c.in_ok-read_on.ensures.piece) (reads_nothing PIECE rest)))
 
 pub returns-in_err-finish-2-clause-read : goal.returns-in_err-finish-2-clause-read
 returns-in_err-finish-2-clause-read g c =

@@ -12,7 +12,7 @@ invariant-loop-progress g l = record {
   ready : IsReadyFor g.K.Keeper.takes l.limits l.progress l.keeper;
   some : 0 < length l.buffer.items;
   room : length l.buffer.items ≤ PIECE;
-  read : (first : _) (start : Option (List ℕ)) → HasLots g.K.Keeper.after l.limits first l.fn.self.passed l.fn.keeper l.fn.self.kept.items
+  read : (first : _) (start : Option (List ℕ)) → HasLots g.K.Keeper.after l.limits first l.fn.self.waiting.passed l.fn.keeper l.fn.self.ahead.kept.items
       start ((g.I.Inputs.view l.fn.inputs).left l.file)
       → HasRead g.K.Keeper.after l.limits first l.progress l.keeper start ((g.I.Inputs.view l.inputs).left l.file);
   alone : ReadsNoOther l.file (λ asked. g.I.Inputs.reads l.fn.inputs asked l.inputs) (g.I.Inputs.view l.fn.inputs)

@@ -1,36 +1,51 @@
-use Rattle.std.proofs.Common.{◌++◌, List, ℕ, arith, length-append, subst, sym}
-use Rattle.object_fold.specs.Lots.{HasLots, all_kept, most_kept}
-use Rattle.object_fold.proofs.LotLaws.{lots_stop}
+use Rattle.std.proofs.Common.{◌+◌, ◌*◌, ℕ, arith, length-append, subst}
+use Rattle.object_fold.specs.declared.scan.TheConstants.{PIECE}
+use Rattle.object_fold.specs.Lots.{ReadsNoFurtherThan, all_kept, most_kept}
+use Rattle.object_fold.specs.Ahead.{most_of_lot}
+use Rattle.object_fold.proofs.LotLaws.{fill_stop, filled, lots_stop, read_then}
 use Rattle.object_fold.proofs.Pieces.{on_err}
 use Rattle.object_fold.proofs.lots.LotReader.read_lots.Goals as goal
 
-pub returns-in_err-more-clause-left : goal.returns-in_err-more-clause-left
-returns-in_err-more-clause-left g c =
+pub returns-in_err-fill-clause-left : goal.returns-in_err-fill-clause-left
+returns-in_err-fill-clause-left g c =
     let reader = c.args.self.now in
     let left = (g.I.Inputs.view c.args.inputs.now).left c.args.file in
-    on_err c.from_residual.result _ (λ first start has. c.in_err-more.ensures.left first start
-    (subst (λ (own : List ℕ). HasLots g.K.Keeper.after c.args.limits.now first reader.passed c.args.keeper.now (own ++ reader.kept.items) start left)
-    (sym c.new-waiting.ensures.bytes) has))
+    let rest = (g.I.Inputs.view c.fill.new.inputs).left c.args.file in
+    on_err c.from_residual.result _ (λ first start has.
+    fill_stop g.K.Keeper.after c.args.limits.now first reader.waiting.passed c.args.keeper.now reader.waiting.bytes.items reader.ahead.kept.items
+    (most_kept reader) (most_of_lot reader.ahead) start left rest has.lots c.in_err-fill.ensures.left (omega (arith, c.requires.reading.few)))
+
+pub returns-in_err-take_lots-clause-left : goal.returns-in_err-take_lots-clause-left
+returns-in_err-take_lots-clause-left g c =
+    let limits = c.args.limits.now in
+    let reader = c.args.self.now in
+    let left = (g.I.Inputs.view c.args.inputs.now).left c.args.file in
+    let between = (g.I.Inputs.view c.fill.new.inputs).left c.args.file in
+    let rest = (g.I.Inputs.view c.take_lots.new.inputs).left c.args.file in
+    on_err c.from_residual-in_err-take_lots.result _ (λ first start has.
+    subst (λ (lot : ℕ). ReadsNoFurtherThan (3 * (lot + PIECE)) limits start rest) c.in_ok-fill.ensures.filled.lot
+    (c.in_err-take_lots.ensures.left first start (filled g.K.Keeper.after limits first reader.waiting.passed c.args.keeper.now reader.waiting.bytes.items reader.ahead c.fill.new.self start left
+    between has c.in_ok-fill.ensures.filled.moves)))
 
 pub returns-in_err-settle-clause-left : goal.returns-in_err-settle-clause-left
 returns-in_err-settle-clause-left g c =
     let limits = c.args.limits.now in
     let reader = c.args.self.now in
     let left = (g.I.Inputs.view c.args.inputs.now).left c.args.file in
+    let between = (g.I.Inputs.view c.fill.new.inputs).left c.args.file in
     let rest = (g.I.Inputs.view c.take_lots.new.inputs).left c.args.file in
     let now = c.take_lots.new.self in
-    let waiting = c.take_lots.new.waiting in
     on_err c.from_residual-in_err-settle.result _ (λ first start has.
-    lots_stop g.K.Keeper.after c.args.limits.now first now.passed c.take_lots.new.keeper (all_kept waiting now) (most_kept reader) start rest
-    (c.in_ok-more.ensures.lots first start
-    (subst (λ (own : List ℕ). HasLots g.K.Keeper.after c.args.limits.now first reader.passed c.args.keeper.now (own ++ reader.kept.items) start left) (sym c.new-waiting.ensures.bytes)
-    has)).lots
+    lots_stop g.K.Keeper.after limits first now.waiting.passed c.take_lots.new.keeper (all_kept now) (most_kept reader) start rest
+    (c.in_ok-take_lots.ensures.lots first start (filled g.K.Keeper.after limits first reader.waiting.passed c.args.keeper.now reader.waiting.bytes.items reader.ahead c.fill.new.self start left
+    between has c.in_ok-fill.ensures.filled.moves)).lots
     (omega (
       arith,
-      c.in_ok-more.ensures.lot,
-      length-append waiting.bytes.items now.kept.items,
-      c.in_ok-more.ensures.waits.few,
-      c.in_ok-more.ensures.waits.next,
+      c.in_ok-fill.ensures.filled.lot,
+      c.in_ok-take_lots.ensures.lot,
+      length-append now.waiting.bytes.items now.ahead.kept.items,
+      c.in_ok-take_lots.ensures.reading.few,
+      c.in_ok-take_lots.ensures.reading.next,
     )))
 
 pub returns-clause-lots : goal.returns-clause-lots
@@ -38,7 +53,25 @@ returns-clause-lots g c = λ first start has.
     let limits = c.args.limits.now in
     let reader = c.args.self.now in
     let left = (g.I.Inputs.view c.args.inputs.now).left c.args.file in
+    let between = (g.I.Inputs.view c.fill.new.inputs).left c.args.file in
     let rest = (g.I.Inputs.view c.take_lots.new.inputs).left c.args.file in
-    c.in_ok-settle.ensures.lots first c.in_ok-more.more start rest
-    (c.in_ok-more.ensures.lots first start
-    (subst (λ (own : List ℕ). HasLots g.K.Keeper.after c.args.limits.now first reader.passed c.args.keeper.now (own ++ reader.kept.items) start left) (sym c.new-waiting.ensures.bytes) has))
+    c.in_ok-settle.ensures.lots first start rest (c.in_ok-take_lots.ensures.lots first start (filled g.K.Keeper.after limits first reader.waiting.passed c.args.keeper.now reader.waiting.bytes.items reader.ahead c.fill.new.self start left
+    between has c.in_ok-fill.ensures.filled.moves))
+
+pub returns-in_err-take_lots-clause-read : goal.returns-in_err-take_lots-clause-read
+returns-in_err-take_lots-clause-read g c =
+    let laws = g.met.I.Inputs g.world.𝓛 g.world.𝓜 g.world.𝓡 ((λ s x. x), (λ x. x), (λ x. x), λ x. x) in
+    read_then g.I.Inputs.reads g.I.Inputs.view c.args.file laws.reads_then c.args.inputs.now c.fill.new.inputs c.take_lots.new.inputs
+    c.fill.ensures.read c.take_lots.ensures.read
+
+pub returns-in_err-settle-clause-read : goal.returns-in_err-settle-clause-read
+returns-in_err-settle-clause-read g c =
+    let laws = g.met.I.Inputs g.world.𝓛 g.world.𝓜 g.world.𝓡 ((λ s x. x), (λ x. x), (λ x. x), λ x. x) in
+    read_then g.I.Inputs.reads g.I.Inputs.view c.args.file laws.reads_then c.args.inputs.now c.fill.new.inputs c.take_lots.new.inputs
+    c.fill.ensures.read c.take_lots.ensures.read
+
+pub returns-clause-read : goal.returns-clause-read
+returns-clause-read g c =
+    let laws = g.met.I.Inputs g.world.𝓛 g.world.𝓜 g.world.𝓡 ((λ s x. x), (λ x. x), (λ x. x), λ x. x) in
+    read_then g.I.Inputs.reads g.I.Inputs.view c.args.file laws.reads_then c.args.inputs.now c.fill.new.inputs c.take_lots.new.inputs
+    c.fill.ensures.read c.take_lots.ensures.read

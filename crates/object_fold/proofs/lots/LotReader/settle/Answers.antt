@@ -1,16 +1,22 @@
-use Rattle.std.proofs.Common.{◌≡◌, ◌++◌, ◌∙◌, List, ℕ, ap, drop, subst, sym}
+use Rattle.std.proofs.Common.{rules, ◌≡◌, ◌++◌, ◌∙◌, Bool, List, ℕ, ap, drop, subst, sym}
 use Rattle.object_fold.specs.Lots.{HasCome}
+use Rattle.object_fold.specs.declared.ahead.Ahead.{Ahead}
 use Rattle.object_fold.proofs.LotLaws.{taken}
 use Rattle.object_fold.proofs.lots.LotReader.settle.Goals as goal
 
 pub returns-clause-lots : goal.returns-clause-lots
-returns-clause-lots g c = λ first more start left come.
-    let waiting = c.args.waiting in
+returns-clause-lots g c = λ first start left come.
+    let old = c.args.self.now in
+    let bytes = old.waiting.bytes.items in
+    let kept = old.ahead.kept.items in
     let used = c.in_ok-used.used in
-    let kept = c.args.self.now.kept.items in
-    let rest : c.drop_front.new.kept.items ≡ drop used waiting.bytes.items =
-    c.in_ok-drop_front.ensures.ok ∙ ap (λ own. drop used own.items) c.in_ok-used.ensures.bytes in
-    subst (λ (own : List ℕ). HasCome g.K.Keeper.after c.args.limits.now first c.give.new.passed c.give.new.keeper own more start left)
-    (sym (ap (λ own. own.items) c.swap.ensures.x_after ∙ c.in_ok-append.ensures.items ∙ ap (λ own. own ++ kept) rest))
-    (taken g.K.Keeper.after c.args.limits.now first c.args.self.now.passed c.args.keeper.now c.give.new.passed c.give.new.keeper waiting.bytes.items kept more used start left come
-    c.in_ok-used.ensures.lines)
+    let given = c.in_ok-used.ensures.given in
+    let more = ap (λ (own : Ahead). own.more) c.in_ok-put_back.ensures.same in
+    let rest : c.drop_front.new.kept.items ≡ drop used bytes = c.in_ok-drop_front.ensures.ok ∙ ap (λ own. drop used own) given.bytes in
+    let front : c.replace-front.result.items ≡ c.drop_front.new.kept.items = search rules in
+    let all : c.put_back.new.self.kept.items ≡ drop used bytes ++ kept =
+    c.in_ok-put_back.ensures.kept ∙ ap (λ own. own ++ kept) (front ∙ rest) in
+    subst (λ (own : Bool × List ℕ). HasCome g.K.Keeper.after c.args.limits.now first c.give.new.self.passed c.give.new.keeper own.1 own.0 start left)
+    (λ i. (sym more i, sym all i))
+    (taken g.K.Keeper.after c.args.limits.now first old.waiting.passed c.args.keeper.now c.give.new.self.passed c.give.new.keeper bytes kept old.ahead.more used
+    start left come given.lines)

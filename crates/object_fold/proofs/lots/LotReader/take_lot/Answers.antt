@@ -1,130 +1,179 @@
-use Rattle.std.proofs.Common.{◌≡◌, ◌++◌, ◌∙◌, List, ℕ, [], ap, arith, drop, length, length-append, subst, sym, take}
-use Rattle.std.proofs.lemmas.List.{length-drop, length-take-le, take-append-drop}
+use Rattle.std.proofs.Common.{rules, ◌≡◌, ◌++◌, ◌∙◌, List, ℕ, [], ap, arith, drop, length, length-append, refl, subst, sym}
 use Rattle.std.proofs.lemmas.Grind.{common_steps}
-use Rattle.object_fold.specs.declared.lots.LotReader.{LotReader}
+use Rattle.std.proofs.lemmas.List.{length-drop}
+use Rattle.object_fold.specs.declared.ahead.Ahead.{Ahead}
 use Rattle.object_fold.specs.declared.passed.Passed.{Passed}
-use Rattle.object_fold.specs.Lots.{HasCome, most_kept, most_of_lot}
-use Rattle.object_fold.specs.Parts.{AreShares, TakesLines, bytes_in}
-use Rattle.object_fold.proofs.LotLaws.{fill_stop, filled, lots_stop, taken}
-use Rattle.object_fold.proofs.PartLaws.{shares_cover, shares_within}
+use Rattle.object_fold.specs.Ahead.{HasRoom, most_of_lot}
+use Rattle.object_fold.specs.Lots.{most_kept}
+use Rattle.object_fold.specs.Parts.{AreShares, GoesOn}
+use Rattle.object_fold.proofs.PartLaws.{shares_within}
+use Rattle.object_fold.proofs.LotLaws.{cut_stop, lots_stop, turned}
 use Rattle.object_fold.proofs.Pieces.{on_err}
 use Rattle.object_fold.proofs.lots.LotReader.take_lot.Goals as goal
 
-pub returns-in_err-more-clause-left : goal.returns-in_err-more-clause-left
-returns-in_err-more-clause-left g c =
+pub returns-in_err-lot-clause-left : goal.returns-in_err-lot-clause-left
+returns-in_err-lot-clause-left g c =
     let reader = c.args.self.now in
-    let left = (g.I.Inputs.view c.args.inputs.now).left c.args.file in
-    let rest = (g.I.Inputs.view c.fill.new.inputs).left c.args.file in
+    let waits = reader.waiting.bytes.items in
+    let kept = reader.ahead.kept.items in
     on_err c.from_residual.result _ (λ first start has.
-    fill_stop g.K.Keeper.after c.args.limits.now first reader.passed c.args.keeper.now c.args.waiting.now.bytes.items reader.kept.items (most_kept reader) (most_of_lot reader) start
-    left rest has c.in_err-more.ensures.left (omega (arith, c.requires.waits.few)))
+    lots_stop g.K.Keeper.after c.args.limits.now first reader.waiting.passed c.args.keeper.now (waits ++ kept) (most_kept reader) start
+    ((g.I.Inputs.view c.args.inputs.now).left c.args.file) has.lots
+    (omega (arith, length-append waits kept, c.requires.reading.few, c.requires.next)))
 
--- a lot was read
+-- a lot was read, or was not, and more was read ahead
 
 pub returns-in_err-used-clause-left : goal.returns-in_err-used-clause-left
 returns-in_err-used-clause-left g c =
     let reader = c.args.self.now in
-    let before = c.args.waiting.now.bytes.items in
-    let kept = c.fill.new.self.kept.items in
+    let lot = c.in-Some.lot.items in
+    let cut : lot ++ c.cut.new.self.kept.items ≡ reader.ahead.kept.items = search rules in
     let left = (g.I.Inputs.view c.args.inputs.now).left c.args.file in
-    let rest = (g.I.Inputs.view c.fill.new.inputs).left c.args.file in
+    let rest = (g.I.Inputs.view c.read_beside.new.inputs).left c.args.file in
     on_err c.from_residual-in_err-used.result _ (λ first start has.
-    lots_stop g.K.Keeper.after c.args.limits.now first reader.passed c.args.keeper.now (before ++ kept) (most_kept reader) start rest
-    (filled g.K.Keeper.after c.args.limits.now first reader.passed c.args.keeper.now before reader.kept.items kept c.in_ok-more.more start left rest has c.in_ok-more.ensures.bytes).lots
-    (omega (arith, length-append before kept, c.requires.waits.few, c.in_ok-more.ensures.few)))
+    cut_stop g.K.Keeper.after c.args.limits.now first reader.waiting.passed c.args.keeper.now reader.waiting.bytes.items lot reader.ahead.kept.items
+    c.cut.new.self (most_kept reader) (most_of_lot c.cut.new.self) start left rest has.lots cut c.read_beside.ensures.left
+    (omega (arith, ap (λ (own : Ahead). own.lot) c.in_ok-lot.ensures.same, c.requires.reading.few, c.requires.next)))
 
 pub returns-in_err-drop_front-clause-left : goal.returns-in_err-drop_front-clause-left
 returns-in_err-drop_front-clause-left g c =
     let reader = c.args.self.now in
-    let before = c.args.waiting.now.bytes.items in
-    let kept = c.fill.new.self.kept.items in
+    let lot = c.in-Some.lot.items in
+    let cut : lot ++ c.cut.new.self.kept.items ≡ reader.ahead.kept.items = search rules in
     let left = (g.I.Inputs.view c.args.inputs.now).left c.args.file in
-    let rest = (g.I.Inputs.view c.fill.new.inputs).left c.args.file in
+    let rest = (g.I.Inputs.view c.read_beside.new.inputs).left c.args.file in
     on_err c.from_residual-in_err-drop_front.result _ (λ first start has.
-    lots_stop g.K.Keeper.after c.args.limits.now first reader.passed c.args.keeper.now (before ++ kept) (most_kept reader) start rest
-    (filled g.K.Keeper.after c.args.limits.now first reader.passed c.args.keeper.now before reader.kept.items kept c.in_ok-more.more start left rest has c.in_ok-more.ensures.bytes).lots
-    (omega (arith, length-append before kept, c.requires.waits.few, c.in_ok-more.ensures.few)))
+    cut_stop g.K.Keeper.after c.args.limits.now first reader.waiting.passed c.args.keeper.now reader.waiting.bytes.items lot reader.ahead.kept.items
+    c.cut.new.self (most_kept reader) (most_of_lot c.cut.new.self) start left rest has.lots cut c.read_beside.ensures.left
+    (omega (arith, ap (λ (own : Ahead). own.lot) c.in_ok-lot.ensures.same, c.requires.reading.few, c.requires.next)))
 
-pub returns-in_err-put_aside-clause-left : goal.returns-in_err-put_aside-clause-left
-returns-in_err-put_aside-clause-left g c =
+pub returns-in_err-rest-clause-left : goal.returns-in_err-rest-clause-left
+returns-in_err-rest-clause-left g c =
     let reader = c.args.self.now in
-    let before = c.args.waiting.now.bytes.items in
-    let kept = c.fill.new.self.kept.items in
+    let lot = c.in-Some.lot.items in
+    let cut : lot ++ c.cut.new.self.kept.items ≡ reader.ahead.kept.items = search rules in
     let left = (g.I.Inputs.view c.args.inputs.now).left c.args.file in
-    let rest = (g.I.Inputs.view c.fill.new.inputs).left c.args.file in
-    on_err c.from_residual-in_err-put_aside.result _ (λ first start has.
-    lots_stop g.K.Keeper.after c.args.limits.now first reader.passed c.args.keeper.now (before ++ kept) (most_kept reader) start rest
-    (filled g.K.Keeper.after c.args.limits.now first reader.passed c.args.keeper.now before reader.kept.items kept c.in_ok-more.more start left rest has c.in_ok-more.ensures.bytes).lots
-    (omega (arith, length-append before kept, c.requires.waits.few, c.in_ok-more.ensures.few)))
+    let rest = (g.I.Inputs.view c.read_beside.new.inputs).left c.args.file in
+    on_err c.from_residual-in_err-rest.result _ (λ first start has.
+    cut_stop g.K.Keeper.after c.args.limits.now first reader.waiting.passed c.args.keeper.now reader.waiting.bytes.items lot reader.ahead.kept.items
+    c.cut.new.self (most_kept reader) (most_of_lot c.cut.new.self) start left rest has.lots cut c.read_beside.ensures.left
+    (omega (arith, ap (λ (own : Ahead). own.lot) c.in_ok-lot.ensures.same, c.requires.reading.few, c.requires.next)))
 
--- and the one before it was put behind
-
-pub returns-then-not-is_empty-clause-lots : goal.returns-then-not-is_empty-clause-lots
-returns-then-not-is_empty-clause-lots g c = λ first start has.
-    let limits = c.args.limits.now in
+pub returns-in_err-put_back-clause-left : goal.returns-in_err-put_back-clause-left
+returns-in_err-put_back-clause-left g c =
     let reader = c.args.self.now in
-    let before = c.args.waiting.now.bytes.items in
-    let kept = c.fill.new.self.kept.items in
+    let lot = c.in-Some.lot.items in
+    let cut : lot ++ c.cut.new.self.kept.items ≡ reader.ahead.kept.items = search rules in
+    let left = (g.I.Inputs.view c.args.inputs.now).left c.args.file in
+    let rest = (g.I.Inputs.view c.read_beside.new.inputs).left c.args.file in
+    on_err c.from_residual-in_err-put_back.result _ (λ first start has.
+    cut_stop g.K.Keeper.after c.args.limits.now first reader.waiting.passed c.args.keeper.now reader.waiting.bytes.items lot reader.ahead.kept.items
+    c.cut.new.self (most_kept reader) (most_of_lot c.cut.new.self) start left rest has.lots cut c.read_beside.ensures.left
+    (omega (arith, ap (λ (own : Ahead). own.lot) c.in_ok-lot.ensures.same, c.requires.reading.few, c.requires.next)))
+
+pub returns-then-is_empty-clause-lots : goal.returns-then-is_empty-clause-lots
+returns-then-is_empty-clause-lots g c = λ first start has.
+    let reader = c.args.self.now in
+    let lot = c.in-Some.lot.items in
+    let cut : lot ++ c.cut.new.self.kept.items ≡ reader.ahead.kept.items = search rules in
+    let left = (g.I.Inputs.view c.args.inputs.now).left c.args.file in
+    let rest = (g.I.Inputs.view c.read_beside.new.inputs).left c.args.file in
     let used = c.in_ok-used.used in
-    let left = (g.I.Inputs.view c.args.inputs.now).left c.args.file in
-    let rest = (g.I.Inputs.view c.fill.new.inputs).left c.args.file in
-    let same = ap (λ (own : LotReader). own.passed) c.in_ok-more.ensures.same in
-    let bytes : c.drop_front.new.kept.items ≡ drop used before =
-    c.in_ok-drop_front.ensures.ok ∙ ap (λ own. drop used own.items) c.in_ok-used.ensures.bytes in
-    subst (λ (own : List ℕ). HasCome g.K.Keeper.after c.args.limits.now first c.read_beside.new.passed c.read_beside.new.keeper (own ++ kept) c.in_ok-more.more start rest) (sym bytes)
-    (taken g.K.Keeper.after c.args.limits.now first reader.passed c.args.keeper.now c.read_beside.new.passed c.read_beside.new.keeper before kept c.in_ok-more.more used start rest
-    (filled g.K.Keeper.after c.args.limits.now first reader.passed c.args.keeper.now before reader.kept.items kept c.in_ok-more.more start left rest has c.in_ok-more.ensures.bytes)
-    (subst (λ (own : Passed). TakesLines g.K.Keeper.after limits own c.args.keeper.now (take used before) c.read_beside.new.passed c.read_beside.new.keeper []) same c.in_ok-used.ensures.lines))
+    let given = c.in_ok-used.ensures.given in
+    let front : c.drop_front.new.kept.items ≡ drop used reader.waiting.bytes.items =
+    c.in_ok-drop_front.ensures.ok ∙ ap (λ own. drop used own) given.bytes in
+    let all = c.in_ok-rest.ensures.bytes ∙ ap (λ own. own ++ lot) front in
+    let none : c.in_ok-rest.rest.items ≡ [] = grind (arith, common_steps) in
+    turned g.K.Keeper.after c.args.limits.now first reader.waiting.passed c.args.keeper.now c.read_beside.new.waiting.passed
+    c.put_aside.new.self.passed c.read_beside.new.keeper reader.waiting.bytes.items lot reader.ahead.kept.items c.put_aside.new.self.bytes.items
+    c.in_ok-rest.rest.items reader.ahead.more c.cut.new.self c.read_beside.new.ahead c.read_beside.new.ahead used start left rest has
+    (ap (λ (own : Ahead). own.more) c.in_ok-lot.ensures.same) cut c.in_ok-used.ensures.filled.moves given.lines all c.in_ok-rest.ensures.passed
+    refl (ap (λ own. own ++ c.read_beside.new.ahead.kept.items) (sym none))
 
--- it waits in its turn
+pub returns-clause-lots : goal.returns-clause-lots
+returns-clause-lots g c = λ first start has.
+    let reader = c.args.self.now in
+    let lot = c.in-Some.lot.items in
+    let cut : lot ++ c.cut.new.self.kept.items ≡ reader.ahead.kept.items = search rules in
+    let left = (g.I.Inputs.view c.args.inputs.now).left c.args.file in
+    let rest = (g.I.Inputs.view c.read_beside.new.inputs).left c.args.file in
+    let used = c.in_ok-used.used in
+    let given = c.in_ok-used.ensures.given in
+    let front : c.drop_front.new.kept.items ≡ drop used reader.waiting.bytes.items =
+    c.in_ok-drop_front.ensures.ok ∙ ap (λ own. drop used own) given.bytes in
+    let all = c.in_ok-rest.ensures.bytes ∙ ap (λ own. own ++ lot) front in
+    turned g.K.Keeper.after c.args.limits.now first reader.waiting.passed c.args.keeper.now c.read_beside.new.waiting.passed
+    c.put_aside.new.self.passed c.read_beside.new.keeper reader.waiting.bytes.items lot reader.ahead.kept.items c.put_aside.new.self.bytes.items
+    c.in_ok-rest.rest.items reader.ahead.more c.cut.new.self c.read_beside.new.ahead c.put_back.new.self used start left rest has
+    (ap (λ (own : Ahead). own.more) c.in_ok-lot.ensures.same) cut c.in_ok-used.ensures.filled.moves given.lines all c.in_ok-rest.ensures.passed
+    (ap (λ (own : Ahead). own.more) c.in_ok-put_back.ensures.same) c.in_ok-put_back.ensures.kept
 
 pub put_aside-requires-clause-few : goal.put_aside-requires-clause-few
 put_aside-requires-clause-few g c =
     let shares = c.in_ok-used.shares.items in
-    shares_within c.args.limits.now c.fill.new.self.kept.items shares
+    shares_within c.args.limits.now c.in-Some.lot.items shares
     (subst (λ (own : List ℕ). AreShares c.args.limits.now own shares) c.deref.ensures.value c.in_ok-used.ensures.shares)
 
-pub returns-clause-waits : goal.returns-clause-waits
-returns-clause-waits g c =
-    let limits = c.args.limits.now in
-    let shares = c.in_ok-used.shares.items in
-    let kept = c.fill.new.self.kept.items in
-    let are = subst (λ (own : List ℕ). AreShares limits own shares) c.deref.ensures.value c.in_ok-used.ensures.shares in
-    let within = shares_within limits kept shares are in
-    let lot = ap (λ (own : LotReader). own.lot) c.in_ok-put_aside.ensures.same ∙ ap (λ (own : LotReader). own.lot) c.in_ok-more.ensures.same in
-    record {
-      shares = rw (c.in_ok-put_aside.ensures.waits, c.in_ok-put_aside.ensures.shares) (shares_cover limits kept shares are);
-      few = omega (
-        arith,
-        lot,
-        c.in_ok-more.ensures.few,
-        ap length c.in_ok-put_aside.ensures.waits,
-        length-take-le (bytes_in shares) kept within,
-        within,
-      );
-      next = omega (arith, lot, c.in_ok-more.ensures.few, ap length c.in_ok-put_aside.ensures.left, length-drop (bytes_in shares) kept);
-    }
-
-pub returns-clause-lots : goal.returns-clause-lots
-returns-clause-lots g c = λ first start has.
+pub returns-then-is_empty-clause-reading : goal.returns-then-is_empty-clause-reading
+returns-then-is_empty-clause-reading g c =
     let limits = c.args.limits.now in
     let reader = c.args.self.now in
-    let before = c.args.waiting.now.bytes.items in
-    let kept = c.fill.new.self.kept.items in
-    let used = c.in_ok-used.used in
-    let count = bytes_in c.in_ok-used.shares.items in
-    let left = (g.I.Inputs.view c.args.inputs.now).left c.args.file in
-    let rest = (g.I.Inputs.view c.fill.new.inputs).left c.args.file in
-    let same = ap (λ (own : LotReader). own.passed) c.in_ok-more.ensures.same in
-    let none : c.drop_front.new.kept.items ≡ [] = grind (arith, common_steps) in
-    let all : drop used before ++ kept ≡ c.put_aside.new.waiting.bytes.items ++ c.put_aside.new.self.kept.items =
-    ap (λ own. own ++ kept) (sym (c.in_ok-drop_front.ensures.ok ∙ ap (λ own. drop used own.items)
-    c.in_ok-used.ensures.bytes) ∙ none)
-    ∙ sym (take-append-drop count kept)
-    ∙ ap (λ own. own ++ drop count kept) (sym c.in_ok-put_aside.ensures.waits)
-    ∙ ap (λ own. c.put_aside.new.waiting.bytes.items ++ own) (sym c.in_ok-put_aside.ensures.left) in
-    subst (λ (own : Passed × List ℕ). HasCome g.K.Keeper.after c.args.limits.now first own.0 c.read_beside.new.keeper own.1 c.in_ok-more.more start rest)
-    (λ i. (sym (ap (λ (own : LotReader). own.passed) c.in_ok-put_aside.ensures.same) i, all i))
-    (taken g.K.Keeper.after c.args.limits.now first reader.passed c.args.keeper.now c.read_beside.new.passed c.read_beside.new.keeper before kept c.in_ok-more.more used start rest
-    (filled g.K.Keeper.after c.args.limits.now first reader.passed c.args.keeper.now before reader.kept.items kept c.in_ok-more.more start left rest has c.in_ok-more.ensures.bytes)
-    (subst (λ (own : Passed). TakesLines g.K.Keeper.after limits own c.args.keeper.now (take used before) c.read_beside.new.passed c.read_beside.new.keeper []) same c.in_ok-used.ensures.lines))
+    let lot = c.in-Some.lot.items in
+    let shares = c.in_ok-used.shares.items in
+    let cut : lot ++ c.cut.new.self.kept.items ≡ reader.ahead.kept.items = search rules in
+    let given = c.in_ok-used.ensures.given in
+    let filled = c.in_ok-used.ensures.filled in
+    let size = ap (λ (own : Ahead). own.lot) c.in_ok-lot.ensures.same in
+    let front = ap length c.in_ok-drop_front.ensures.ok in
+    let left = length-drop c.in_ok-used.used c.read_beside.new.waiting.bytes.items in
+    let before = ap length given.bytes in
+    let most = most_of_lot reader.ahead in
+    let waits = c.in_ok-rest.ensures.few most (omega (arith, front, left, before, c.requires.reading.few))
+    (omega (arith, ap length cut, length-append lot c.cut.new.self.kept.items, c.requires.next)) in
+    record {
+      workers = c.requires.reading.workers;
+      room = filled.room;
+      goes = subst (λ (own : Passed). GoesOn g.K.Keeper.takes limits own c.read_beside.new.keeper) (sym c.in_ok-rest.ensures.passed) given.goes;
+      shares = c.in_ok-rest.ensures.shares limits
+          (subst (λ (own : List ℕ). AreShares limits own shares) c.deref.ensures.value c.in_ok-used.ensures.shares);
+      few = omega (arith, waits, size, filled.lot);
+      next = omega (arith, size, filled.lot, filled.few);
+    }
+
+pub returns-clause-reading : goal.returns-clause-reading
+returns-clause-reading g c =
+    let limits = c.args.limits.now in
+    let reader = c.args.self.now in
+    let lot = c.in-Some.lot.items in
+    let shares = c.in_ok-used.shares.items in
+    let cut : lot ++ c.cut.new.self.kept.items ≡ reader.ahead.kept.items = search rules in
+    let given = c.in_ok-used.ensures.given in
+    let filled = c.in_ok-used.ensures.filled in
+    let size = ap (λ (own : Ahead). own.lot) c.in_ok-lot.ensures.same in
+    let front = ap length c.in_ok-drop_front.ensures.ok in
+    let left = length-drop c.in_ok-used.used c.read_beside.new.waiting.bytes.items in
+    let before = ap length given.bytes in
+    let most = most_of_lot reader.ahead in
+    let waits = c.in_ok-rest.ensures.few most (omega (arith, front, left, before, c.requires.reading.few))
+    (omega (arith, ap length cut, length-append lot c.cut.new.self.kept.items, c.requires.next)) in
+    record {
+      workers = c.requires.reading.workers;
+      room = subst (λ (own : Ahead). HasRoom own) (sym c.in_ok-put_back.ensures.same) (record { some = filled.room.some; room = filled.room.room });
+      goes = subst (λ (own : Passed). GoesOn g.K.Keeper.takes limits own c.read_beside.new.keeper) (sym c.in_ok-rest.ensures.passed) given.goes;
+      shares = c.in_ok-rest.ensures.shares limits
+          (subst (λ (own : List ℕ). AreShares limits own shares) c.deref.ensures.value c.in_ok-used.ensures.shares);
+      few = omega (arith, waits, size, filled.lot, ap (λ (own : Ahead). own.lot) c.in_ok-put_back.ensures.same);
+      next = omega (
+        arith,
+        size,
+        filled.lot,
+        filled.few,
+        ap (λ (own : Ahead). own.lot) c.in_ok-put_back.ensures.same,
+        ap length c.in_ok-put_back.ensures.kept,
+        length-append c.in_ok-rest.rest.items c.read_beside.new.ahead.kept.items,
+        c.in_ok-rest.ensures.less,
+        ap length cut,
+        length-append lot c.cut.new.self.kept.items,
+        c.requires.next,
+      );
+    }
