@@ -27,7 +27,6 @@ use Rattle.tile_cover.specs.Table.{BoundsOf}
 use Rattle.page_journal.specs.Crash.{IsAtRest}
 use Rattle.page_journal.specs.declared.fault.StoreFault.TheVariants as stores
 use Rattle.update_flow.specs.Handle.{Handle, IsOpen, is_imported, is_old, view_of}
-use Rattle.update_flow.specs.SoundTurns.{IsSoundlyOpen}
 use Rattle.update_flow.specs.State.{Append, Holding, changed, imported}
 use Rattle.update_flow.specs.Updater.{handle_of}
 use Rattle.update_flow.specs.declared.updater.Updater.{Updater}
@@ -47,12 +46,10 @@ use Rattle.updater.specs.Ahead.{AppendsAhead, AppendsLocally, AppendsTaken, AreT
 use Rattle.updater.specs.FileReads.{Among}
 use Rattle.updater.specs.Heads.{GoesOn, IsHead, IsVersion, Leads}
 use Rattle.updater.specs.Versions.{AppendsHere, AppendsSoFar}
-use Rattle.updater.specs.Works.{KeepsSound}
 use Rattle.updater.proofs.AppendRuns.{appends-step, ends_in_version, first_version, last_version, next_version}
 use Rattle.updater.proofs.FileLaws.{change_read, change_unread}
 use Rattle.updater.proofs.HeadLaws.{stops_in_file}
 use Rattle.updater.proofs.LocalLaws.{appends_begin, appends_end, appends_next}
-use Rattle.updater.proofs.SoundRuns.{ends_well}
 use Rattle.updater.proofs.StoreDeeds.{IsRefusedSo}
 
 -- something was imported into a store, in the format of today
@@ -365,13 +362,12 @@ module _ (bounds : BoundsOf) (first count file left less : ℕ) (more : left ≡
       → ((files read : FilesView) (old : Before) (start done : Progress) (held : Holding) → HasBecome file parcel.body files read
       → IsHead start done (imported held) file old files store told
       → Leads (λ last. appends_one bounds held file (onward last)) (Some fault) start done (file + 1) old read after then)
-      → KeepsSound (Some fault) before after → AppendsTaken bounds first count (Some fault) list before after output then
-  taken_ends fault own leads sound = record {
+      → AppendsTaken bounds first count (Some fault) list before after output then
+  taken_ends fault own leads = record {
     leads = λ before_all now taken.
         subst (λ (at : ℕ). SeesAhead bounds first count at (Some fault) before_all now before after output then) (sym length_is)
         (so_far_ends bounds first count file left less more before_all now before store after output told then parcels parcel many
         (all before_all now taken) (earlier before_all now taken) fault leads);
-    sound = sound;
     local = λ none. absurd (cc);
     ends = subst (EndsBy (Some fault) count) (sym is) (ends_last fault count parcels parcel own);
   }
@@ -381,12 +377,11 @@ pub taken_all : (bounds : BoundsOf) (first count file left : ℕ) → left ≡ 0
     (output told : SinkView) (parcels : List Parcel) → first + length parcels ≡ file
     → ((own now : FilesView) → AreTaken first count own now parcels
     → AheadSoFar bounds first count file left own now before store output told)
-    → (IsSoundlyOpen before → IsSoundlyOpen store) → AppendsTaken bounds first count None parcels before store output told
-taken_all bounds first count file left none end before store output told parcels many so sound = record {
+    → AppendsTaken bounds first count None parcels before store output told
+taken_all bounds first count file left none end before store output told parcels many so = record {
   leads = λ own now taken.
       subst (λ (at : ℕ). SeesAhead bounds first count at None own now before store output told) (sym many)
       (so_far_all bounds first count file left none end own now before store output told (so own now taken));
-  sound = λ opened. ends_well store (sound opened);
   local = λ is own now taken held pages opened rests.
       appends_end bounds held pages first count file own (so own now taken).seen before store end
       ((so own now taken).local held pages opened rests);
@@ -440,7 +435,6 @@ module _ (bounds : BoundsOf) (first count ahead : ℕ) (some : 1 ≤ ahead) (own
           ended = among.ended;
           later = among.later;
         };
-        sound = λ opened. record { never = λ page is. absurd (cc (is)); stays = λ none. absurd (cc (none)) };
         leads = λ old start done held head. short_appends bounds held first count less is start done old own (handle_of store)
             (view output) head;
       }))
@@ -462,7 +456,6 @@ module _ (bounds : BoundsOf) (first count ahead : ℕ) (some : 1 ≤ ahead) (own
         record {
           seen = led.0;
           read = ahead_so first count asks own now led.0 got taken.read among led.1 ahead fault appends.ends some;
-          sound = appends.sound;
           leads = led.2;
         },
         λ none. appends.local none own now taken,
@@ -480,13 +473,11 @@ pub each_in_turn : {I D S : Type 0} {g : Ghosts D} (files : I → FilesView) (vi
     → ((old : Before) (start done : Progress) (held : Holding)
     → IsHead start done (imported held) first old (files again) (handle_of same) (view told)
     → Leads (λ last. appends bounds held first count (onward last)) fault start done (first + count) old last after then)
-    → KeepsSound fault (handle_of same) after
     → AppendsAhead bounds first count ahead fault (files inputs) last (handle_of store) after (view output) then
 each_in_turn {I} {D} {S} {g} files view bounds first count ahead fault inputs again last store same after output told then is_inputs is_store
-    is_output leads sound = record {
+    is_output leads = record {
       seen = last;
       read = none_ahead _ last;
-      sound = subst (λ (own : Updater D g). KeepsSound fault (handle_of own) after) is_store sound;
       leads = λ old start done held head. leads old start done held
           (subst (λ (own : I). IsHead start done (imported held) first old (files own) (handle_of same) (view told)) (sym is_inputs)
           (subst (λ (own : Updater D g). IsHead start done (imported held) first old (files inputs) (handle_of own) (view told))

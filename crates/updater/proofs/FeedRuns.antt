@@ -32,7 +32,6 @@ use Rattle.run_promise.proofs.FeedTexts.{delta_is_block}
 use Rattle.updater.specs.Feeding.{FeedsFull, FeedsOne, IsFeeding, feed_fault}
 use Rattle.updater.specs.FileReads.{IsRead, IsUnread}
 use Rattle.updater.specs.Heads.{GoesOn, IsHead}
-use Rattle.updater.specs.Works.{EndsSound}
 use Rattle.updater.proofs.HeadLaws.{ends_here, leads_file, past_file, past_text, stops_in_file}
 use Rattle.updater.proofs.SoFarLaws as parts
 use Rattle.updater.proofs.StoreDeeds.{IsRefusedSo, IsStepped, not_outdated, refused_step, shows_here, taken}
@@ -53,11 +52,6 @@ untold_block start done state next old files updater output head Fits text new r
 untold_block start done state next old files updater output head Fits text new rest block fits writing.OutOfMemory why later =
     parts.short_of_block start done next old files (view_of updater) output (record { unread = head.unread; so_far = head.so_far })
     Fits new rest why later
-
--- and of a sound store it says nothing
-pub block_ends : (fault : FeedWrite) (store : Handle) → EndsSound (Some (feed_fault fault)) store
-block_ends writing.WriteFault store = record { never = λ page is. absurd (cc (is)); stays = λ none. absurd (cc (none)) }
-block_ends writing.OutOfMemory store = record { never = λ page is. absurd (cc (is)); stays = λ none. absurd (cc (none)) }
 
 -- ---- the block of all tables
 

@@ -26,6 +26,7 @@ pub mod MakeRuns
 pub mod MigrateRuns
 pub mod CheckRuns
 pub mod SoundRuns
+pub mod Keeping
 pub mod FillRuns
 pub mod DemoRuns
 pub mod TileCounts

@@ -22,7 +22,6 @@ use Rattle.run_promise.specs.Progress.{Progress}
 use Rattle.run_promise.specs.World.{Before}
 use Rattle.updater.specs.FileReads.{Among, IsRead, IsUnread}
 use Rattle.updater.specs.Heads.{IsHead, Leads}
-use Rattle.updater.specs.Works.{KeepsSound}
 
 -- changes may be appended: something was imported, in the format of today
 pub record TakesChanges (store : Handle) : Type 0 where
@@ -76,7 +75,6 @@ pub record AppendsTaken (bounds : BoundsOf) (first count : ℕ) (fault : Option 
     (output told : SinkView) : Type 0 where
   pub leads : (own now : FilesView) → AreTaken first count own now parcels
       → SeesAhead bounds first count (first + length parcels) fault own now before after output told
-  pub sound : KeepsSound fault before after
   pub local : fault ≡ None →
       (own now : FilesView) → AreTaken first count own now parcels → AppendsLocally bounds first count own before after
   pub ends : EndsBy fault count parcels
@@ -87,6 +85,5 @@ pub record AppendsAhead (bounds : BoundsOf) (first count ahead : ℕ) (fault : O
     (output told : SinkView) : Type 0 where
   pub seen : FilesView
   pub read : IsReadAhead (λ file. (0 < ahead) × IsOwnFault fault × Among first count file) seen now
-  pub sound : KeepsSound fault before after
   pub leads : (old : Before) (start done : Progress) (held : Holding) → IsHead start done (imported held) first old own before output
       → Leads (λ last. appends bounds held first count (onward last)) fault start done (first + count) old seen after told

@@ -24,7 +24,6 @@ use Rattle.run_promise.specs.Blocks.{version_at}
 use Rattle.run_promise.specs.Comes.{Comes, IsCertain}
 use Rattle.run_promise.specs.Courses.{Onward, appends_one, onward, serves, serving}
 use Rattle.updater.specs.Heads.{GoesOn, IsHead}
-use Rattle.updater.specs.Works.{KeepsSound}
 use Rattle.run_promise.specs.Progress.{Progress, Ending}
 use Rattle.run_promise.specs.World.{Before, world}
 
@@ -104,13 +103,12 @@ Serves bounds queries readers None held first count start done old files updater
 Serves bounds queries readers (Some fault) held first count start done old files updater output before now =
     GoesOn (serves bounds queries readers [] held first count) start done (Some fault) old (world files (view_of updater) output)
 
--- so many files from this one on are appended, told and shown, or the run ends in one, wherever it began; and a sound store is kept
+-- so many files from this one on are appended, told and shown, or the run ends in one, wherever it began
 pub record Shows {D : Type 0} {g : Ghosts D} (bounds : BoundsOf) (first count : ℕ) (fault : Option Fault) (files read : FilesView)
     (store now_store : Updater D g) (output told : SinkView) (before now : FrontOf) : Type 0 where
   pub each : (old : Before) (start done : Progress) (held : Holding) (queries : List Query) (readers : ℕ)
       → IsHead start done (imported held) first old files (handle_of store) output
       → Serves bounds queries readers fault held first count start done old read (handle_of now_store) told before now
-  pub sound : KeepsSound fault (handle_of store) (handle_of now_store)
 
 -- the text of what so many readers answered in their rounds
 pub record IsServed (style : StyleOf) (front : FrontOf) (queries : List Query) (rounds readers : ℕ) (text : List ℕ) : Type 0 where

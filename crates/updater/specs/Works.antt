@@ -4,7 +4,7 @@ use Rattle.outside.specs.Disk.{Stays}
 use Rattle.outside.specs.declared.disk.Disk.{Ghosts}
 use Rattle.update_flow.specs.Handle.{Handle}
 use Rattle.update_flow.specs.SoundTurns.{IsSoundlyOpen}
-use Rattle.update_flow.specs.Updater.{StaysOver}
+use Rattle.update_flow.specs.Updater.{StaysOver, handle_of}
 use Rattle.update_flow.specs.declared.updater.Updater.{Updater}
 use Rattle.run_promise.specs.declared.fault.Fault.{Fault}
 use Rattle.run_promise.specs.declared.fault.Fault.TheVariants.{BadStore, NotFormatted}
@@ -27,10 +27,20 @@ pub record Does (course : Course) (asks : List ℕ → Type 0) (named : ℕ → 
 abbrev pub NoFile : ℕ → Type 0
 NoFile file = ⊥
 
--- An open store stays open over its disk, under its limits, and no fault says that the disk holds no store.
+-- What comes of an open sound store: no damaged page is told, and where no fault is the store is an open sound one still.
+pub record EndsSound (fault : Option Fault) (store : Handle) : Type 0 where
+  pub never : (page : ℕ) → fault ≢ Some (BadStore page)
+  pub stays : fault ≡ None → IsSoundlyOpen store
+
+-- that, of a store that was one before
+abbrev pub KeepsSound : Option Fault → (before after : Handle) → Type 0
+KeepsSound fault before after = IsSoundlyOpen before → EndsSound fault after
+
+-- An open store stays open over its disk, under its limits, and a sound one is kept. No fault says that the disk holds no store.
 pub record KeepsOpen {D : Type 0} {g : Ghosts D} (fault : Option Fault) (old new : Updater D g) : Type 0 where
   pub stays : StaysOver old new
   pub formatted : fault ≢ Some NotFormatted
+  pub sound : KeepsSound fault (handle_of old) (handle_of new)
 
 -- So it is, and only this file is asked for, some times.
 pub record WorksOn {D : Type 0} {g : Ghosts D} (asks : List ℕ → Type 0) (file : ℕ) (fault : Option Fault)
@@ -43,12 +53,3 @@ pub record Works {D : Type 0} {g : Ghosts D} (asks : List ℕ → Type 0) (named
     (old new : Updater D g) : Type 0 where
   pub keeps : KeepsOpen fault old new
   pub asked : AsksOnly asks named
-
--- What comes of an open sound store: no damaged page is told, and where no fault is the store is an open sound one still.
-pub record EndsSound (fault : Option Fault) (store : Handle) : Type 0 where
-  pub never : (page : ℕ) → fault ≢ Some (BadStore page)
-  pub stays : fault ≡ None → IsSoundlyOpen store
-
--- that, of a store that was one before
-abbrev pub KeepsSound : Option Fault → (before after : Handle) → Type 0
-KeepsSound fault before after = IsSoundlyOpen before → EndsSound fault after

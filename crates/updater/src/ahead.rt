@@ -22,7 +22,7 @@ ghost use Rattle.updater.specs.Ahead.{AppendsAhead, AppendsLocally, AppendsTaken
 ghost use Rattle.updater.specs.FileReads.{Among, IsRead, IsUnread};
 ghost use Rattle.updater.specs.Heads.{IsHead, Leads};
 ghost use Rattle.updater.specs.Versions.{AppendsHere};
-ghost use Rattle.updater.specs.Works.{KeepsOpen, KeepsSound, Works};
+ghost use Rattle.updater.specs.Works.{KeepsOpen, Works};
 
 use crate::versions::{append_files, commit_change};
 use change_pipe::{ChangeFiles, ParcelBody, Pipe, Taker, make_pipe, put_some};
@@ -74,7 +74,6 @@ fn append_parcel<R: Threads + Sync, D: Disk, S: Sink, G: Gate>(
         → IsOpen (imported held) (handle_of store.old) → IsAtRest pages (view_of (handle_of store.old))
         → AppendsHere bounds.now held pages file files read (handle_of store.old) (handle_of store.new)) }
     ensures keeps { KeepsOpen (result_err result) store.old store.new }
-    ensures sound { KeepsSound (result_err result) (handle_of store.old) (handle_of store.new) }
     ensures whole { OnOk result (IsWholeBody body) }
     ensures takes { TakesChanges (handle_of store.old) → IsWholeBody body → TakesOrStops (result_err result) (handle_of store.new) }
 {

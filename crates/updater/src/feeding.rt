@@ -13,7 +13,7 @@ ghost use Rattle.run_promise.specs.World.{Before, world};
 ghost use Rattle.updater.specs.Feeding.{FeedsFull, FeedsOne, feed_fault};
 ghost use Rattle.updater.specs.FileReads.{Among, IsRead};
 ghost use Rattle.updater.specs.Heads.{GoesOn, IsHead};
-ghost use Rattle.updater.specs.Works.{KeepsOpen, KeepsSound, Works, WorksOn};
+ghost use Rattle.updater.specs.Works.{KeepsOpen, Works, WorksOn};
 
 use crate::file_reads::read_change;
 use change_pipe::ChangeFiles;
@@ -46,7 +46,6 @@ fn feed_tables<R: Threads + Sync, D: Disk, S: Sink, G: Gate>(
         → IsHead start done (imported held) next old files (handle_of store.old) (S.view out.old)
         → FeedsFull true (result_err result) start done held next old files (handle_of store.new) (S.view out.new) }
     ensures keeps { KeepsOpen (result_err result) store.old store.new }
-    ensures sound { KeepsSound (result_err result) (handle_of store.old) (handle_of store.new) }
 {
     let style = match store.style_bytes() {
         Ok(style) => style,
@@ -81,7 +80,6 @@ pub fn feed_full<R: Threads + Sync, D: Disk, S: Sink, G: Gate>(
         → IsHead start done (imported held) next old files (handle_of store.old) (S.view out.old)
         → FeedsFull full (result_err result) start done held next old files (handle_of store.new) (S.view out.new) }
     ensures keeps { KeepsOpen (result_err result) store.old store.new }
-    ensures sound { KeepsSound (result_err result) (handle_of store.old) (handle_of store.new) }
 {
     if full {
         return feed_tables(hands, store, out);
@@ -104,7 +102,6 @@ fn feed_change<R: Threads + Sync, D: Disk, S: Sink, G: Gate>(
         → IsHead start done (imported held) file old files (handle_of store.old) (S.view out.old)
         → FeedsOne bounds.now file (result_err result) start done held old read (handle_of store.new) (S.view out.new) }
     ensures keeps { KeepsOpen (result_err result) store.old store.new }
-    ensures sound { KeepsSound (result_err result) (handle_of store.old) (handle_of store.new) }
 {
     let delta = match store.append_one(hands, bounds, change) {
         Ok(delta) => delta,
@@ -128,7 +125,6 @@ fn feed_file<R: Threads + Sync, I: Inputs, D: Disk, S: Sink, G: Gate>(
     ensures feeds { (old : Before) (start done : Progress) (held : Holding) → IsHead start done (imported held) file old (I.view inputs.old) (handle_of store.old) (S.view out.old)
         → FeedsOne bounds.now file (result_err result) start done held old (I.view inputs.new) (handle_of store.new) (S.view out.new) }
     ensures works { WorksOn (λ asked. I.reads inputs.old asked inputs.new) file (result_err result) store.old store.new }
-    ensures sound { KeepsSound (result_err result) (handle_of store.old) (handle_of store.new) }
 {
     let change = match read_change(hands, inputs, file) {
         Ok(change) => change,
@@ -150,7 +146,6 @@ pub fn feed_files<R: Threads + Sync, I: Inputs, D: Disk, S: Sink, G: Gate>(
         → GoesOn (feeds_changes bounds.now held files.first files.count) start done (result_err result) old
         (world (I.view inputs.new) (view_of (handle_of store.new)) (S.view out.new)) }
     ensures works { Works (λ asked. I.reads inputs.old asked inputs.new) (Among files.first files.count) (result_err result) store.old store.new }
-    ensures sound { KeepsSound (result_err result) (handle_of store.old) (handle_of store.new) }
 {
     let end = files.first + files.count;
     let mut file = files.first;

@@ -14,7 +14,7 @@ ghost use Rattle.updater.specs.Heads.{GoesOn, IsHead};
 ghost use Rattle.run_promise.specs.Progress.{Progress};
 ghost use Rattle.updater.specs.FileReads.{Among};
 ghost use Rattle.updater.specs.Serving.{AreShown, IsServed, KeepsFront, Publishes, Shows, ShowsFront, with_delta};
-ghost use Rattle.updater.specs.Works.{KeepsSound, Works, WorksOn};
+ghost use Rattle.updater.specs.Works.{Works, WorksOn};
 ghost use Rattle.run_promise.specs.World.{Before, world};
 
 use crate::blocks::blocks_text;
@@ -63,7 +63,6 @@ pub fn serve_shown<R: Threads + Wait + Sync, I: Inputs, D: Disk, S: Sink, G: Gat
         → held.style ≡ own.entry.style.now → (IsCertain done.store → AreShown own.entry.style.now publisher.old.front [] held)
         → GoesOn (serves own.entry.bounds.now own.entry.queries.now (count_of askers) [] held files.first files.count) start done (result_err result) old (world (I.view inputs.new) (view_of (handle_of store.new)) (S.view out.new)) }
     ensures works { Works (λ asked. I.reads inputs.old asked inputs.new) (Among files.first files.count) (result_err result) store.old store.new }
-    ensures sound { KeepsSound (result_err result) (handle_of store.old) (handle_of store.new) }
 {
     let mut tables = tables;
     let mut askers = askers;
@@ -165,7 +164,6 @@ fn publish_file<R: Threads + Wait + Sync, I: Inputs, D: Disk, S: Sink, G: Gate>(
     ensures publishes { (old : Before) (start done : Progress) (held : Holding) → IsHead start done (imported held) file old (I.view inputs.old) (handle_of store.old) (S.view out.old)
         → Publishes bounds.now file (result_err result) start done held old (I.view inputs.new) (handle_of store.new) (S.view out.new) publisher.old.front publisher.new.front }
     ensures works { WorksOn (λ asked. I.reads inputs.old asked inputs.new) file (result_err result) store.old store.new }
-    ensures sound { KeepsSound (result_err result) (handle_of store.old) (handle_of store.new) }
     ensures front { KeepsFront result (changes_of (handle_of store.new)) tables.new publisher.old.front publisher.new.front }
 {
     let delta = match commit_file(hands, bounds, file, inputs, store, out) {

@@ -21,7 +21,7 @@ ghost use Rattle.run_promise.specs.Files.{IsChange};
 ghost use Rattle.updater.specs.Ahead.{TakesChanges, TakesOrStops};
 ghost use Rattle.updater.specs.FileReads.{Among, IsRead};
 ghost use Rattle.updater.specs.Serving.{LeadsBy};
-ghost use Rattle.updater.specs.Works.{KeepsOpen, KeepsSound, Works, WorksOn};
+ghost use Rattle.updater.specs.Works.{KeepsOpen, Works, WorksOn};
 ghost use Rattle.run_promise.specs.World.{Before};
 
 use crate::file_reads::{StyleFile, read_change};
@@ -70,7 +70,6 @@ pub fn import_change<R: Threads + Sync, D: Disk, S: Sink, G: Gate>(
         → Leads (λ last. imports_these (style.style, style.bytes) buckets change (onward last)) (result_err result) start done next old
         files (handle_of store.new) (S.view out.new) }
     ensures keeps { KeepsOpen (result_err result) store.old store.new }
-    ensures sound { KeepsSound (result_err result) (handle_of store.old) (handle_of store.new) }
 {
     let StyleFile { style, bytes } = style;
     if let Err(fault) = store.import(hands, bytes.as_slice(), style, change, buckets) {
@@ -95,7 +94,6 @@ pub fn import_file<R: Threads + Sync, I: Inputs, D: Disk, S: Sink, G: Gate>(
         → Leads (λ last. imports (style.style, style.bytes) buckets file (onward last)) (result_err result) start done (file + 1) old
         (I.view inputs.new) (handle_of store.new) (S.view out.new) }
     ensures works { WorksOn (λ asked. I.reads inputs.old asked inputs.new) file (result_err result) store.old store.new }
-    ensures sound { KeepsSound (result_err result) (handle_of store.old) (handle_of store.new) }
 {
     let change = match read_change(hands, inputs, file) {
         Ok(change) => change,
@@ -128,7 +126,6 @@ pub fn commit_change<R: Threads + Sync, D: Disk, S: Sink, G: Gate>(
     ensures version { IfOk result (λ delta. delta.version ≡ changes_of (handle_of store.old) + 1) }
     ensures changes { OnOk result (changes_of (handle_of store.new) ≡ changes_of (handle_of store.old) + 1) }
     ensures keeps { KeepsOpen (result_err result) store.old store.new }
-    ensures sound { KeepsSound (result_err result) (handle_of store.old) (handle_of store.new) }
     ensures takes { TakesChanges (handle_of store.old) → TakesOrStops (result_err result) (handle_of store.new) }
 {
     let delta = match store.append_one(hands, bounds, change) {
@@ -157,7 +154,6 @@ pub fn commit_file<R: Threads + Sync, I: Inputs, D: Disk, S: Sink, G: Gate>(
     ensures version { IfOk result (λ delta. delta.version ≡ changes_of (handle_of store.old) + 1) }
     ensures changes { OnOk result (changes_of (handle_of store.new) ≡ changes_of (handle_of store.old) + 1) }
     ensures works { WorksOn (λ asked. I.reads inputs.old asked inputs.new) file (result_err result) store.old store.new }
-    ensures sound { KeepsSound (result_err result) (handle_of store.old) (handle_of store.new) }
 {
     let change = match read_change(hands, inputs, file) {
         Ok(change) => change,
@@ -181,7 +177,6 @@ pub fn append_file<R: Threads + Sync, I: Inputs, D: Disk, S: Sink, G: Gate>(
     ensures local { OnOk result ((held : Holding) (pages : List (List ℕ)) → IsOpen (imported held) (handle_of store.old) → IsAtRest pages (view_of (handle_of store.old))
         → AppendsHere bounds.now held pages file (I.view inputs.old) (I.view inputs.new) (handle_of store.old) (handle_of store.new)) }
     ensures works { WorksOn (λ asked. I.reads inputs.old asked inputs.new) file (result_err result) store.old store.new }
-    ensures sound { KeepsSound (result_err result) (handle_of store.old) (handle_of store.new) }
 {
     let _delta = match commit_file(hands, bounds, file, inputs, store, out) {
         Ok(delta) => delta,
@@ -205,7 +200,6 @@ pub fn append_files<R: Threads + Sync, I: Inputs, D: Disk, S: Sink, G: Gate>(
     ensures local { OnOk result ((held : Holding) (pages : List (List ℕ)) → IsOpen (imported held) (handle_of store.old) → IsAtRest pages (view_of (handle_of store.old))
         → AppendsThere bounds.now held pages files.first files.count (I.view inputs.old) (view_of (handle_of store.old)).reads (view_of (handle_of store.new)).reads) }
     ensures works { Works (λ asked. I.reads inputs.old asked inputs.new) (Among files.first files.count) (result_err result) store.old store.new }
-    ensures sound { KeepsSound (result_err result) (handle_of store.old) (handle_of store.new) }
 {
     let end = files.first + files.count;
     let mut file = files.first;

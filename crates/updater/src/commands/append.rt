@@ -18,7 +18,7 @@ ghost use Rattle.run_promise.specs.Progress.{Progress};
 ghost use Rattle.run_promise.specs.World.{Before, world};
 ghost use Rattle.run_promise.specs.Courses.{append_to};
 ghost use Rattle.updater.specs.FileReads.{Among};
-ghost use Rattle.updater.specs.Works.{Does, KeepsSound, Works};
+ghost use Rattle.updater.specs.Works.{Does, Works};
 
 use crate::ahead::append_ahead;
 use crate::file_reads::read_bounds_file;
@@ -106,7 +106,6 @@ fn append_store<R: Threads + Wait + Sync, I: Inputs, D: Disk, S: Sink, G: Gate>(
     ensures local { OnOk result ((held : Holding) (pages : List (List ℕ)) → IsOpen (imported held) (handle_of store.old) → IsAtRest pages (view_of (handle_of store.old))
         → AppendsAll files held pages (I.view inputs.old) (view_of (handle_of store.old)).reads (view_of (handle_of store.new)).reads) }
     ensures works { Works (λ asked. I.reads inputs.old asked inputs.new) (Among files.first files.count) (result_err result) store.old store.new }
-    ensures sound { KeepsSound (result_err result) (handle_of store.old) (handle_of store.new) }
 {
     if store.old() {
         return Err(Fault::OldFormat);

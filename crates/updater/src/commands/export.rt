@@ -12,7 +12,7 @@ ghost use Rattle.run_promise.specs.Progress.{Progress};
 ghost use Rattle.run_promise.specs.World.{Before, world};
 ghost use Rattle.run_promise.specs.Courses.{export_from};
 ghost use Rattle.updater.specs.Following.{KeepsFollower};
-ghost use Rattle.updater.specs.Works.{Does, KeepsOpen, KeepsSound, NoFile};
+ghost use Rattle.updater.specs.Works.{Does, KeepsOpen, NoFile};
 
 use crate::forms::Words;
 use crate::telling::tell;
@@ -114,7 +114,6 @@ fn export_store<I: Inputs, D: Disk, S: Sink>(
     ensures goes_on { (old : Before) (start done : Progress) (state : State) → IsHead start done state 0 old (I.view inputs.now) (handle_of store.old) (S.view out.old)
         → GoesOn (export_from table.now state) start done (result_err result) old (world (I.view inputs.now) (view_of (handle_of store.new)) (S.view out.new)) }
     ensures keeps { KeepsOpen (result_err result) store.old store.new }
-    ensures sound { KeepsSound (result_err result) (handle_of store.old) (handle_of store.new) }
 {
     if store.old() {
         return Err(Fault::OldFormat);

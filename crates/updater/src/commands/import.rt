@@ -13,7 +13,7 @@ ghost use Rattle.run_promise.specs.Progress.{Progress};
 ghost use Rattle.run_promise.specs.World.{Before, world};
 ghost use Rattle.run_promise.specs.Courses.{import_into};
 ghost use Rattle.updater.specs.FileReads.{Among};
-ghost use Rattle.updater.specs.Works.{Does, KeepsSound, Works};
+ghost use Rattle.updater.specs.Works.{Does, Works};
 
 use crate::file_reads::read_style_file;
 use crate::forms::{Words, stored_files};
@@ -94,7 +94,6 @@ fn import_store<R: Threads + Sync, I: Inputs, D: Disk, S: Sink, G: Gate>(
     ensures goes_on { (old : Before) (start done : Progress) (state : State) → IsHead start done state files.first old (I.view inputs.old) (handle_of store.old) (S.view out.old)
         → GoesOn (import_into files buckets state) start done (result_err result) old (world (I.view inputs.new) (view_of (handle_of store.new)) (S.view out.new)) }
     ensures works { Works (λ asked. I.reads inputs.old asked inputs.new) (Among files.first files.count) (result_err result) store.old store.new }
-    ensures sound { KeepsSound (result_err result) (handle_of store.old) (handle_of store.new) }
 {
     if store.old() {
         return Err(Fault::OldFormat);

@@ -8,7 +8,7 @@ ghost use Rattle.run_promise.specs.Course.{opens};
 ghost use Rattle.run_promise.specs.Courses.{migrates};
 ghost use Rattle.updater.specs.Heads.{GoesOn, IsHead};
 ghost use Rattle.run_promise.specs.Progress.{Progress};
-ghost use Rattle.updater.specs.Works.{Does, KeepsOpen, KeepsSound, NoFile};
+ghost use Rattle.updater.specs.Works.{Does, KeepsOpen, NoFile};
 ghost use Rattle.run_promise.specs.World.{Before, world};
 ghost use Rattle.updater.specs.commands.Migrate as migrate;
 
@@ -65,7 +65,6 @@ fn migrate_store<I: Inputs, D: Disk, S: Sink>(
     ensures goes_on { (old : Before) (start done : Progress) (state : State) → IsHead start done state 0 old (I.view inputs.now) (handle_of store.old) (S.view out.old)
         → GoesOn (migrates state) start done (result_err result) old (world (I.view inputs.now) (view_of (handle_of store.new)) (S.view out.new)) }
     ensures keeps { KeepsOpen (result_err result) store.old store.new }
-    ensures sound { KeepsSound (result_err result) (handle_of store.old) (handle_of store.new) }
 {
     if !store.imported() {
         return Err(Fault::NotImported);

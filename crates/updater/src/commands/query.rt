@@ -11,7 +11,7 @@ ghost use Rattle.run_promise.specs.Courses.{query_from};
 ghost use Rattle.updater.specs.Heads.{GoesOn, IsHead};
 ghost use Rattle.run_promise.specs.Progress.{Progress};
 ghost use Rattle.updater.specs.FileReads.{Among};
-ghost use Rattle.updater.specs.Works.{Does, KeepsSound, Works};
+ghost use Rattle.updater.specs.Works.{Does, Works};
 ghost use Rattle.run_promise.specs.World.{Before, world};
 ghost use Rattle.updater.specs.commands.Query as query;
 
@@ -80,7 +80,6 @@ fn query_store<I: Inputs, D: Disk, S: Sink>(
     ensures goes_on { (old : Before) (start done : Progress) (state : State) → IsHead start done state files.first old (I.view inputs.old) (handle_of store.old) (S.view out.old)
         → GoesOn (query_from files state) start done (result_err result) old (world (I.view inputs.new) (view_of (handle_of store.new)) (S.view out.new)) }
     ensures works { Works (λ asked. I.reads inputs.old asked inputs.new) (Among files.first files.count) (result_err result) store.old store.new }
-    ensures sound { KeepsSound (result_err result) (handle_of store.old) (handle_of store.new) }
 {
     if store.old() {
         return Err(Fault::OldFormat);

@@ -13,7 +13,7 @@ ghost use Rattle.run_promise.specs.Courses.{serve_to, serves};
 ghost use Rattle.updater.specs.Heads.{GoesOn, IsHead};
 ghost use Rattle.run_promise.specs.Progress.{Progress};
 ghost use Rattle.updater.specs.FileReads.{Among};
-ghost use Rattle.updater.specs.Works.{Does, KeepsSound, Works};
+ghost use Rattle.updater.specs.Works.{Does, Works};
 ghost use Rattle.run_promise.specs.World.{Before, world};
 ghost use Rattle.updater.specs.commands.Serve as serve;
 
@@ -98,7 +98,6 @@ fn serve_store<R: Threads + Wait + Sync, I: Inputs, D: Disk, S: Sink, G: Gate>(
     ensures goes_on { (old : Before) (start done : Progress) (state : State) → IsHead start done state files.first old (I.view inputs.old) (handle_of store.old) (S.view out.old)
         → GoesOn (serve_to files readers state) start done (result_err result) old (world (I.view inputs.new) (view_of (handle_of store.new)) (S.view out.new)) }
     ensures works { Works (λ asked. I.reads inputs.old asked inputs.new) (Among files.first files.count) (result_err result) store.old store.new }
-    ensures sound { KeepsSound (result_err result) (handle_of store.old) (handle_of store.new) }
 {
     if store.old() {
         return Err(Fault::OldFormat);
@@ -148,7 +147,6 @@ fn serve_loaded<R: Threads + Wait + Sync, I: Inputs, D: Disk, S: Sink, G: Gate>(
         → (IsCertain done.store → tables ≡ tables_in held.style held.objects)
         → GoesOn (serves bounds.now queries.now readers [] held files.first files.count) start done (result_err result) old (world (I.view inputs.new) (view_of (handle_of store.new)) (S.view out.new)) }
     ensures works { Works (λ asked. I.reads inputs.old asked inputs.new) (Among files.first files.count) (result_err result) store.old store.new }
-    ensures sound { KeepsSound (result_err result) (handle_of store.old) (handle_of store.new) }
 {
     let style = match store.style() {
         Some(style) => style.copy(hands.alloc),

@@ -10,7 +10,7 @@ ghost use Rattle.updater.specs.Heads.{GoesOn, IsHead};
 ghost use Rattle.run_promise.specs.Progress.{Progress};
 ghost use Rattle.run_promise.specs.World.{Before, world};
 ghost use Rattle.run_promise.specs.Courses.{tiles_of_store};
-ghost use Rattle.updater.specs.Works.{Does, KeepsOpen, KeepsSound, NoFile};
+ghost use Rattle.updater.specs.Works.{Does, KeepsOpen, NoFile};
 
 use crate::forms::Words;
 use crate::number::number_of;
@@ -94,7 +94,6 @@ fn tiles_in<I: Inputs, D: Disk, S: Sink>(
     ensures goes_on { (old : Before) (start done : Progress) (state : State) → IsHead start done state 0 old (I.view inputs.now) (handle_of store.old) (S.view out.old)
         → GoesOn (tiles_of_store least clear state) start done (result_err result) old (world (I.view inputs.now) (view_of (handle_of store.new)) (S.view out.new)) }
     ensures keeps { KeepsOpen (result_err result) store.old store.new }
-    ensures sound { KeepsSound (result_err result) (handle_of store.old) (handle_of store.new) }
 {
     if store.old() {
         return Err(Fault::OldFormat);

@@ -11,7 +11,6 @@ pub returns-then-ahead-eq0-clause-ahead : goal.returns-then-ahead-eq0-clause-ahe
 returns-then-ahead-eq0-clause-ahead g c = record {
   seen = g.I.Inputs.view c.append_files.new.inputs;
   read = none_ahead _ (g.I.Inputs.view c.append_files.new.inputs);
-  sound = c.append_files.ensures.sound;
   leads = c.append_files.ensures.leads;
 }
 
@@ -22,7 +21,7 @@ returns-in-None-clause-ahead g c =
     (result_err c.append_files-in-None.result) c.args.inputs.now c.append_beside.new.inputs
     (g.I.Inputs.view c.append_files-in-None.new.inputs) c.args.store.now c.append_beside.new.store
     (handle_of c.append_files-in-None.new.store) c.args.out.now c.append_beside.new.out (g.S.Sink.view c.append_files-in-None.new.out)
-    none.0 none.1 none.2 c.append_files-in-None.ensures.leads c.append_files-in-None.ensures.sound
+    none.0 none.1 none.2 c.append_files-in-None.ensures.leads
 
 pub returns-in-None-clause-local : goal.returns-in-None-clause-local
 returns-in-None-clause-local g c =

@@ -4,6 +4,7 @@ use Rattle.update_flow.specs.Updater.{handle_of}
 use Rattle.run_promise.specs.Courses.{version_line}
 use Rattle.updater.proofs.ServeRuns.{leads_without}
 use Rattle.updater.proofs.VersionRuns.{file_unread}
+use Rattle.updater.proofs.Keeping.{keeps_ends, keeps_none}
 use Rattle.updater.proofs.ahead.append_parcel.Goals as goal
 
 pub returns-in-Err-clause-leads : goal.returns-in-Err-clause-leads
@@ -24,11 +25,12 @@ returns-clause-leads g c = λ files read old start done held become head.
     (handle_of c.commit_change.new.store) (g.S.Sink.view c.commit_change.new.out)
     (c.in-Ok-commit_change.ensures.leads c.args.file files read old start done held (c.in-Ok.ensures.ok files read become) head)
 
-pub returns-in-Err-clause-sound : goal.returns-in-Err-clause-sound
-returns-in-Err-clause-sound g c = λ opened. record { never = c.in-Err.ensures.sound; stays = λ none. absurd (cc (none)) }
+pub returns-in-Err-clause-keeps : goal.returns-in-Err-clause-keeps
+returns-in-Err-clause-keeps g c =
+    keeps_ends c.args.store.now c.args.store.now (keeps_none c.args.store.now) c.in-Err.fault c.in-Err.ensures.formatted c.in-Err.ensures.sound
 
-pub returns-in-Err-commit_change-clause-sound : goal.returns-in-Err-commit_change-clause-sound
-returns-in-Err-commit_change-clause-sound g c = c.in-Err-commit_change.ensures.sound
+pub returns-in-Err-commit_change-clause-keeps : goal.returns-in-Err-commit_change-clause-keeps
+returns-in-Err-commit_change-clause-keeps g c = c.in-Err-commit_change.ensures.keeps
 
-pub returns-clause-sound : goal.returns-clause-sound
-returns-clause-sound g c = c.in-Ok-commit_change.ensures.sound
+pub returns-clause-keeps : goal.returns-clause-keeps
+returns-clause-keeps g c = c.in-Ok-commit_change.ensures.keeps

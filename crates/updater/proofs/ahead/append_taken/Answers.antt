@@ -1,7 +1,8 @@
-use Rattle.std.proofs.Common.{◌+◌, ◌-◌, ◌∙◌, ap, arith, length, length-append, refl, ◌∷◌, []}
+use Rattle.std.proofs.Common.{◌+◌, ◌-◌, ◌∙◌, ap, arith, length, length-append, ◌∷◌, [], None, Some}
 use Rattle.update_flow.specs.Updater.{handle_of}
 use Rattle.change_pipe.specs.Ends.{EndView}
 use Rattle.updater.proofs.AheadRuns.{so_far_none, taken_all, taken_ends, taken_more}
+use Rattle.updater.proofs.Keeping.{keeps_none, keeps_then}
 use Rattle.updater.proofs.ahead.append_taken.Goals as goal
 
 pub loop-file-init : goal.loop-file-init
@@ -12,8 +13,7 @@ loop-file-init g c =
       within = omega arith;
       ours = ap (λ (end : EndView). end.home) c.requires.ours;
       many = omega (arith, none);
-      stays = record { same_disk = refl; same_limits = refl };
-      sound = λ opened. opened;
+      keeps = keeps_none c.args.store.now;
       takes = c.requires.takes;
       so_far = λ own now taken. so_far_none c.args.bounds.now c.args.files.first c.args.files.count
           (c.args.files.first + c.args.files.count - c.args.files.first) (omega arith) own now (handle_of c.args.store.now)
@@ -33,7 +33,6 @@ returns-in-Err-clause-taken g c =
     c.loop-file.invariant.so_far c.take_when_ready-parcel.new.taker.list
     (ap (λ (end : EndView). end.list) c.take_when_ready-parcel.ensures.taken) c.in-Err.fault
     (c.in-Err.ensures.takes c.loop-file.invariant.takes) c.in-Err.ensures.leads
-    (λ opened. c.in-Err.ensures.sound (c.loop-file.invariant.sound opened))
 
 pub loop-file-preserved : goal.loop-file-preserved
 loop-file-preserved g c =
@@ -45,11 +44,8 @@ loop-file-preserved g c =
       within = omega (arith, c.loop-file-test.true);
       ours = ap (λ (end : EndView). end.home) c.take_when_ready-parcel.ensures.taken;
       many = omega (arith, many, size);
-      stays = record {
-        same_disk = c.append_parcel.ensures.keeps.stays.same_disk ∙ c.loop-file.invariant.stays.same_disk;
-        same_limits = c.append_parcel.ensures.keeps.stays.same_limits ∙ c.loop-file.invariant.stays.same_limits;
-      };
-      sound = λ opened. (c.in-Ok.ensures.sound (c.loop-file.invariant.sound opened)).stays refl;
+      keeps = keeps_then c.args.store.now c.loop-file.store None c.append_parcel.new.store c.loop-file.invariant.keeps
+          c.in-Ok.ensures.keeps;
       takes = c.in-Ok.ensures.takes c.loop-file.invariant.takes c.in-Ok.ensures.whole;
       so_far = taken_more c.args.bounds.now c.args.files.first c.args.files.count c.loop-file.file
           (c.args.files.first + c.args.files.count - c.loop-file.file) (c.args.files.first + c.args.files.count - (c.loop-file.file + 1))
@@ -67,4 +63,12 @@ returns-clause-taken g c =
     (c.args.files.first + c.args.files.count - c.loop-file.file) (omega (arith, c.loop-file-test.false))
     (omega (arith, c.loop-file-test.false, c.loop-file.invariant.within)) (handle_of c.args.store.now) (handle_of c.loop-file.store)
     (g.S.Sink.view c.args.out.now) (g.S.Sink.view c.loop-file.out) c.loop-file.taker.list c.loop-file.invariant.many
-    c.loop-file.invariant.so_far c.loop-file.invariant.sound
+    c.loop-file.invariant.so_far
+
+pub returns-in-Err-clause-keeps : goal.returns-in-Err-clause-keeps
+returns-in-Err-clause-keeps g c =
+    keeps_then c.args.store.now c.loop-file.store (Some c.in-Err.fault) c.append_parcel.new.store c.loop-file.invariant.keeps
+    c.in-Err.ensures.keeps
+
+pub returns-clause-keeps : goal.returns-clause-keeps
+returns-clause-keeps g c = c.loop-file.invariant.keeps

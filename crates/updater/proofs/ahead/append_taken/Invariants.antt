@@ -1,9 +1,9 @@
-use Rattle.std.proofs.Common.{◌≡◌, ◌≤◌, ◌+◌, ◌-◌, length}
+use Rattle.std.proofs.Common.{◌≡◌, ◌≤◌, ◌+◌, ◌-◌, length, None}
 use Rattle.outside.specs.Inputs.{FilesView}
-use Rattle.update_flow.specs.Updater.{StaysOver, handle_of}
+use Rattle.update_flow.specs.Updater.{handle_of}
 use Rattle.updater.specs.Ahead.{AreTaken, TakesChanges}
 use Rattle.updater.proofs.AheadRuns.{AheadSoFar}
-use Rattle.update_flow.specs.SoundTurns.{IsSoundlyOpen}
+use Rattle.updater.specs.Works.{KeepsOpen}
 use Rattle.updater.proofs.ahead.append_taken.Given as goal
 
 -- the files so far are taken, appended and told
@@ -13,8 +13,7 @@ invariant-loop-file g l = record {
   within : l.file ≤ l.end;
   ours : l.taker.home ≡ l.pipe.home;
   many : l.fn.files.first + length l.taker.list ≡ l.file;
-  stays : StaysOver l.fn.store l.store;
-  sound : IsSoundlyOpen (handle_of l.fn.store) → IsSoundlyOpen (handle_of l.store);
+  keeps : KeepsOpen None l.fn.store l.store;
   takes : TakesChanges (handle_of l.store);
   so_far : (own now : FilesView) → AreTaken l.fn.files.first l.fn.files.count own now l.taker.list
       → AheadSoFar l.fn.bounds l.fn.files.first l.fn.files.count l.file (l.end - l.file) own now (handle_of l.fn.store) (handle_of l.store)

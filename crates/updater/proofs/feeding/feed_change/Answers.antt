@@ -1,8 +1,8 @@
 use Rattle.std.proofs.Common.{◌+◌, ◌∙◌, ap, refl}
 use Rattle.update_flow.specs.Updater.{handle_of}
-use Rattle.updater.proofs.FeedRuns.{block_ends, change_fed, change_refused, change_unfed}
+use Rattle.updater.proofs.FeedRuns.{change_fed, change_refused, change_unfed}
 use Rattle.updater.proofs.StoreDeeds.{refused_so}
-use Rattle.updater.proofs.SoundRuns.{ends_well, step_goes, step_stops}
+use Rattle.updater.proofs.Keeping.{keeps_step, keeps_unstepped, keeps_untold}
 use Rattle.updater.proofs.feeding.feed_change.Goals as goal
 
 pub returns-in-Err-clause-feeds : goal.returns-in-Err-clause-feeds
@@ -43,15 +43,17 @@ returns-clause-feeds g c = rw c.in_feed.ensures.fault (λ file files read old st
     (c.in-Ok.ensures.delta held) (g.S.Sink.view c.write_delta.new.out) c.write_delta.ensures.later c.in-Err-write_delta.fault
     c.in-Err-write_delta.ensures.err)
 
-pub returns-in-Err-clause-sound : goal.returns-in-Err-clause-sound
-returns-in-Err-clause-sound g c = rw c.in_flow.ensures.fault (λ opened.
-    step_stops c.in-Err.fault (handle_of c.args.store.now) opened (handle_of c.append_one.new.self) _
-    (handle_of c.append_one.new.self) c.in-Err.ensures.sound)
+pub returns-in-Err-clause-keeps : goal.returns-in-Err-clause-keeps
+returns-in-Err-clause-keeps g c = rw c.in_flow.ensures.fault
+    (keeps_unstepped c.args.store.now c.append_one.new.self c.in-Err.fault _ c.append_one.ensures.stays.over
+    c.in-Err.ensures.stays.alone c.in-Err.ensures.sound)
 
-pub returns-in-Ok-write_delta-clause-sound : goal.returns-in-Ok-write_delta-clause-sound
-returns-in-Ok-write_delta-clause-sound g c = λ opened.
-    ends_well (handle_of c.append_one.new.self)
-    (step_goes _ (handle_of c.args.store.now) (handle_of c.append_one.new.self) c.in-Ok.ensures.sound opened)
+pub returns-in-Ok-write_delta-clause-keeps : goal.returns-in-Ok-write_delta-clause-keeps
+returns-in-Ok-write_delta-clause-keeps g c =
+    keeps_step c.args.store.now c.append_one.new.self _ c.append_one.ensures.stays.over c.in-Ok.ensures.sound
 
-pub returns-clause-sound : goal.returns-clause-sound
-returns-clause-sound g c = rw c.in_feed.ensures.fault (λ opened. block_ends c.in-Err-write_delta.fault (handle_of c.append_one.new.self))
+pub returns-clause-keeps : goal.returns-clause-keeps
+returns-clause-keeps g c = rw c.in_feed.ensures.fault
+    (keeps_untold c.args.store.now c.append_one.new.self
+    (keeps_step c.args.store.now c.append_one.new.self _ c.append_one.ensures.stays.over c.in-Ok.ensures.sound)
+    c.in-Err-write_delta.fault)

@@ -1,6 +1,6 @@
 use Rattle.update_flow.specs.Updater.{handle_of}
 use Rattle.updater.proofs.FeedRuns.{file_unfed}
-use Rattle.updater.proofs.SoundRuns.{unread_ends}
+use Rattle.updater.proofs.Keeping.{keeps_unread}
 use Rattle.updater.proofs.feeding.feed_file.Goals as goal
 
 pub returns-in-Err-clause-feeds : goal.returns-in-Err-clause-feeds
@@ -14,9 +14,11 @@ returns-clause-feeds g c = λ old start done held head.
     c.feed_change.ensures.feeds c.args.file (g.I.Inputs.view c.args.inputs.now) (g.I.Inputs.view c.read_change.new.inputs) old start done
     held c.in-Ok.ensures.reads.ok head
 
-pub returns-in-Err-clause-sound : goal.returns-in-Err-clause-sound
-returns-in-Err-clause-sound g c = λ opened.
-    unread_ends _ _ c.in-Err.fault _ _ (handle_of c.args.store.now) c.in-Err.ensures.reads.err
+pub returns-in-Err-clause-works : goal.returns-in-Err-clause-works
+returns-in-Err-clause-works g c = record {
+  keeps = keeps_unread _ _ c.in-Err.fault _ _ c.args.store.now c.in-Err.ensures.reads.err;
+  asked = c.read_change.ensures.reads.asked;
+}
 
-pub returns-clause-sound : goal.returns-clause-sound
-returns-clause-sound g c = c.feed_change.ensures.sound
+pub returns-clause-works : goal.returns-clause-works
+returns-clause-works g c = record { keeps = c.feed_change.ensures.keeps; asked = c.read_change.ensures.reads.asked }

@@ -1,9 +1,9 @@
-use Rattle.std.proofs.Common.{◌-◌, ◌+◌, ◌∙◌, arith, refl}
+use Rattle.std.proofs.Common.{◌-◌, ◌+◌, arith, None, Some}
 use Rattle.update_flow.specs.Updater.{handle_of}
 use Rattle.updater.specs.FileReads.{Among}
 use Rattle.updater.proofs.FeedRuns.{first_feeding, next_feeding, ends_in_feeding, last_feeding}
 use Rattle.updater.proofs.Asked.{asked_more, asked_none}
-use Rattle.updater.proofs.SoundRuns.{ends_well}
+use Rattle.updater.proofs.Keeping.{keeps_none, keeps_then}
 use Rattle.updater.proofs.feeding.feed_files.Goals as goal
 
 pub loop-file-init : goal.loop-file-init
@@ -14,8 +14,7 @@ loop-file-init g c =
       within = omega arith;
       asked = asked_none g.I.Inputs.reads (Among c.args.files.first c.args.files.count) c.args.inputs.now
           (laws.reads_none c.args.inputs.now);
-      stays = record { same_disk = refl; same_limits = refl };
-      sound = λ opened. opened;
+      keeps = keeps_none c.args.store.now;
       turn = λ old start done held head. first_feeding c.args.bounds.now held c.args.files.first c.args.files.count start done old
           (c.args.files.first + c.args.files.count - c.args.files.first) (omega arith)
           (g.I.Inputs.view c.args.inputs.now) (handle_of c.args.store.now) (g.S.Sink.view c.args.out.now) head;
@@ -37,13 +36,8 @@ pub returns-in-Err-clause-works : goal.returns-in-Err-clause-works
 returns-in-Err-clause-works g c =
     let laws = g.met.I.Inputs g.world.𝓛 g.world.𝓜 g.world.𝓡 ((λ s x. x), (λ x. x), (λ x. x), λ x. x) in
     record {
-      keeps = record {
-        stays = record {
-          same_disk = c.feed_file.ensures.works.keeps.stays.same_disk ∙ c.loop-file.invariant.stays.same_disk;
-          same_limits = c.feed_file.ensures.works.keeps.stays.same_limits ∙ c.loop-file.invariant.stays.same_limits;
-        };
-        formatted = c.in-Err.ensures.works.keeps.formatted;
-      };
+      keeps = keeps_then c.args.store.now c.loop-file.store (Some c.in-Err.fault) c.feed_file.new.store c.loop-file.invariant.keeps
+          c.in-Err.ensures.works.keeps;
       asked = asked_more g.I.Inputs.reads laws.reads_then
           (Among c.args.files.first c.args.files.count) c.args.inputs.now c.loop-file.inputs c.feed_file.new.inputs c.loop-file.file
           c.loop-file.invariant.asked c.feed_file.ensures.works.asked
@@ -60,11 +54,8 @@ loop-file-preserved g c =
           (Among c.args.files.first c.args.files.count) c.args.inputs.now c.loop-file.inputs c.feed_file.new.inputs c.loop-file.file
           c.loop-file.invariant.asked c.feed_file.ensures.works.asked
           (c.loop-file.invariant.least, omega (arith, c.loop-file-test.true));
-      stays = record {
-        same_disk = c.feed_file.ensures.works.keeps.stays.same_disk ∙ c.loop-file.invariant.stays.same_disk;
-        same_limits = c.feed_file.ensures.works.keeps.stays.same_limits ∙ c.loop-file.invariant.stays.same_limits;
-      };
-      sound = λ opened. (c.in-Ok.ensures.sound (c.loop-file.invariant.sound opened)).stays refl;
+      keeps = keeps_then c.args.store.now c.loop-file.store None c.feed_file.new.store c.loop-file.invariant.keeps
+          c.in-Ok.ensures.works.keeps;
       turn = λ old start done held head.
           next_feeding c.args.bounds.now held c.args.files.first c.args.files.count start done old c.loop-file.file
           (c.args.files.first + c.args.files.count - c.loop-file.file) (c.args.files.first + c.args.files.count - (c.loop-file.file + 1))
@@ -83,13 +74,4 @@ returns-clause-feeds g c = λ old start done held head.
 
 pub returns-clause-works : goal.returns-clause-works
 returns-clause-works g c =
-    record {
-      keeps = record { stays = c.loop-file.invariant.stays; formatted = λ is. absurd (cc) };
-      asked = c.loop-file.invariant.asked;
-    }
-
-pub returns-in-Err-clause-sound : goal.returns-in-Err-clause-sound
-returns-in-Err-clause-sound g c = λ opened. c.in-Err.ensures.sound (c.loop-file.invariant.sound opened)
-
-pub returns-clause-sound : goal.returns-clause-sound
-returns-clause-sound g c = λ opened. ends_well (handle_of c.loop-file.store) (c.loop-file.invariant.sound opened)
+    record { keeps = c.loop-file.invariant.keeps; asked = c.loop-file.invariant.asked }

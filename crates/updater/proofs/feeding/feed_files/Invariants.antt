@@ -1,13 +1,13 @@
-use Rattle.std.proofs.Common.{◌≤◌, ◌-◌}
+use Rattle.std.proofs.Common.{◌≤◌, ◌-◌, None}
 use Rattle.update_flow.specs.State.{Holding, imported}
-use Rattle.update_flow.specs.Updater.{StaysOver, handle_of}
+use Rattle.update_flow.specs.Updater.{handle_of}
 use Rattle.updater.specs.Heads.{IsHead}
 use Rattle.updater.specs.Feeding.{IsFeeding}
 use Rattle.run_promise.specs.Progress.{Progress}
 use Rattle.updater.specs.FileReads.{Among}
 use Rattle.run_promise.specs.Runs.{AsksOnly}
 use Rattle.run_promise.specs.World.{Before}
-use Rattle.update_flow.specs.SoundTurns.{IsSoundlyOpen}
+use Rattle.updater.specs.Works.{KeepsOpen}
 use Rattle.updater.proofs.feeding.feed_files.Given as goal
 
 -- the files so far are appended and their blocks told, and the rest of the course leads on
@@ -16,8 +16,7 @@ invariant-loop-file g l = record {
   least : l.fn.files.first ≤ l.file;
   within : l.file ≤ l.end;
   asked : AsksOnly (λ asked. g.I.Inputs.reads l.fn.inputs asked l.inputs) (Among l.fn.files.first l.fn.files.count);
-  stays : StaysOver l.fn.store l.store;
-  sound : IsSoundlyOpen (handle_of l.fn.store) → IsSoundlyOpen (handle_of l.store);
+  keeps : KeepsOpen None l.fn.store l.store;
   turn : (old : Before) (start done : Progress) (held : Holding)
       → IsHead start done (imported held) l.fn.files.first old (g.I.Inputs.view l.fn.inputs) (handle_of l.fn.store) (g.S.Sink.view l.fn.out)
       → IsFeeding l.fn.bounds held l.fn.files.first l.fn.files.count start done l.file (l.end - l.file) old (g.I.Inputs.view l.inputs)

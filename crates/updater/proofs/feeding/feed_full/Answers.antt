@@ -2,7 +2,7 @@ use Rattle.std.proofs.Common.{sym}
 use Rattle.std.specs.Result.{result_err}
 use Rattle.update_flow.specs.Updater.{handle_of}
 use Rattle.updater.proofs.FeedRuns.{full_asked, not_asked}
-use Rattle.updater.proofs.SoundRuns.{ends_well}
+use Rattle.updater.proofs.Keeping.{keeps_none}
 use Rattle.updater.proofs.feeding.feed_full.Goals as goal
 
 pub returns-then-full-clause-feeds : goal.returns-then-full-clause-feeds
@@ -16,8 +16,8 @@ returns-clause-feeds g c = λ next files old start done held head.
     not_asked c.args.full (sym c.if-full.false) start done held next old files (handle_of c.args.store.now)
     (g.S.Sink.view c.args.out.now) head
 
-pub returns-then-full-clause-sound : goal.returns-then-full-clause-sound
-returns-then-full-clause-sound g c = c.feed_tables.ensures.sound
+pub returns-then-full-clause-keeps : goal.returns-then-full-clause-keeps
+returns-then-full-clause-keeps g c = c.feed_tables.ensures.keeps
 
-pub returns-clause-sound : goal.returns-clause-sound
-returns-clause-sound g c = λ opened. ends_well (handle_of c.args.store.now) opened
+pub returns-clause-keeps : goal.returns-clause-keeps
+returns-clause-keeps g c = keeps_none c.args.store.now

@@ -2,10 +2,10 @@ use Rattle.std.proofs.Common.{◌∙◌}
 use Rattle.update_flow.specs.Updater.{handle_of}
 use Rattle.delta_feed.specs.Text.{full_text}
 use Rattle.run_promise.proofs.FeedTexts.{full_is_block}
-use Rattle.updater.proofs.FeedRuns.{block_ends, full_same, full_told, full_unlooked, full_untold}
+use Rattle.updater.proofs.FeedRuns.{full_same, full_told, full_unlooked, full_untold}
 use Rattle.updater.proofs.StoreDeeds.{refused_so}
 use Rattle.updater.proofs.StoreRuns.{look_done}
-use Rattle.updater.proofs.SoundRuns.{ends_well, look_goes, look_stops}
+use Rattle.updater.proofs.Keeping.{keeps_look, keeps_then, keeps_unlooked, keeps_untold}
 use Rattle.updater.proofs.feeding.feed_tables.Goals as goal
 
 pub returns-in-Err-clause-feeds : goal.returns-in-Err-clause-feeds
@@ -60,22 +60,28 @@ returns-clause-feeds g c = rw c.in_feed.ensures.fault (λ next files old start d
     (c.in-Ok-load_sorted.ensures.tables held))
     (g.S.Sink.view c.write_full_by.new.out) c.write_full_by.ensures.later c.in-Err-write_full_by.fault c.in-Err-write_full_by.ensures.err)
 
-pub returns-in-Err-clause-sound : goal.returns-in-Err-clause-sound
-returns-in-Err-clause-sound g c = rw c.in_flow.ensures.fault (λ opened.
-    look_stops c.in-Err.fault (handle_of c.args.store.now) opened (handle_of c.style_bytes.new.self)
-    (handle_of c.style_bytes.new.self) c.in-Err.ensures.sound)
+pub returns-in-Err-clause-keeps : goal.returns-in-Err-clause-keeps
+returns-in-Err-clause-keeps g c = rw c.in_flow.ensures.fault
+    (keeps_unlooked c.args.store.now c.style_bytes.new.self c.in-Err.fault c.style_bytes.ensures.stays.over c.in-Err.ensures.stays.alone
+    c.in-Err.ensures.sound)
 
-pub returns-in-Err-load_sorted-clause-sound : goal.returns-in-Err-load_sorted-clause-sound
-returns-in-Err-load_sorted-clause-sound g c = rw c.in_flow-in-Err-load_sorted.ensures.fault (λ opened.
-    look_stops c.in-Err-load_sorted.fault (handle_of c.style_bytes.new.self)
-    (look_goes (handle_of c.args.store.now) (handle_of c.style_bytes.new.self) c.in-Ok.ensures.sound opened)
-    (handle_of c.load_sorted.new.self) (handle_of c.load_sorted.new.self) c.in-Err-load_sorted.ensures.sound)
+pub returns-in-Err-load_sorted-clause-keeps : goal.returns-in-Err-load_sorted-clause-keeps
+returns-in-Err-load_sorted-clause-keeps g c = rw c.in_flow-in-Err-load_sorted.ensures.fault
+    (keeps_then c.args.store.now c.style_bytes.new.self _ c.load_sorted.new.self
+    (keeps_look c.args.store.now c.style_bytes.new.self c.style_bytes.ensures.stays.over c.in-Ok.ensures.sound)
+    (keeps_unlooked c.style_bytes.new.self c.load_sorted.new.self c.in-Err-load_sorted.fault c.load_sorted.ensures.stays.over
+    c.in-Err-load_sorted.ensures.stays.alone c.in-Err-load_sorted.ensures.sound))
 
-pub returns-in-Ok-write_full_by-clause-sound : goal.returns-in-Ok-write_full_by-clause-sound
-returns-in-Ok-write_full_by-clause-sound g c = λ opened.
-    ends_well (handle_of c.load_sorted.new.self)
-    (look_goes (handle_of c.style_bytes.new.self) (handle_of c.load_sorted.new.self) c.in-Ok-load_sorted.ensures.sound
-    (look_goes (handle_of c.args.store.now) (handle_of c.style_bytes.new.self) c.in-Ok.ensures.sound opened))
+pub returns-in-Ok-write_full_by-clause-keeps : goal.returns-in-Ok-write_full_by-clause-keeps
+returns-in-Ok-write_full_by-clause-keeps g c =
+    keeps_then c.args.store.now c.style_bytes.new.self _ c.load_sorted.new.self
+    (keeps_look c.args.store.now c.style_bytes.new.self c.style_bytes.ensures.stays.over c.in-Ok.ensures.sound)
+    (keeps_look c.style_bytes.new.self c.load_sorted.new.self c.load_sorted.ensures.stays.over c.in-Ok-load_sorted.ensures.sound)
 
-pub returns-clause-sound : goal.returns-clause-sound
-returns-clause-sound g c = rw c.in_feed.ensures.fault (λ opened. block_ends c.in-Err-write_full_by.fault (handle_of c.load_sorted.new.self))
+pub returns-clause-keeps : goal.returns-clause-keeps
+returns-clause-keeps g c = rw c.in_feed.ensures.fault
+    (keeps_untold c.args.store.now c.load_sorted.new.self
+    (keeps_then c.args.store.now c.style_bytes.new.self _ c.load_sorted.new.self
+    (keeps_look c.args.store.now c.style_bytes.new.self c.style_bytes.ensures.stays.over c.in-Ok.ensures.sound)
+    (keeps_look c.style_bytes.new.self c.load_sorted.new.self c.load_sorted.ensures.stays.over c.in-Ok-load_sorted.ensures.sound))
+    c.in-Err-write_full_by.fault)

@@ -5,6 +5,7 @@ use Rattle.update_flow.specs.Updater.{handle_of}
 use Rattle.run_promise.specs.Courses.{serving}
 use Rattle.updater.proofs.ServeRuns.{unshown}
 use Rattle.updater.proofs.ShownVersions.{shown_version}
+use Rattle.updater.proofs.Keeping.{keeps_short}
 use Rattle.updater.proofs.serving.publish_file.Goals as goal
 
 pub returns-in-Err-clause-publishes : goal.returns-in-Err-clause-publishes
@@ -33,8 +34,14 @@ returns-clause-front g c = record {
   };
 }
 
-pub returns-in-Err-clause-sound : goal.returns-in-Err-clause-sound
-returns-in-Err-clause-sound g c = c.in-Err.ensures.sound
+pub returns-in-Err-clause-works : goal.returns-in-Err-clause-works
+returns-in-Err-clause-works g c = c.in-Err.ensures.works
 
-pub returns-clause-sound : goal.returns-clause-sound
-returns-clause-sound g c = c.in-Ok.ensures.sound
+pub returns-in-Err-show_delta-clause-works : goal.returns-in-Err-show_delta-clause-works
+returns-in-Err-show_delta-clause-works g c = record {
+  keeps = keeps_short c.args.store.now c.commit_file.new.store c.in-Ok.ensures.works.keeps;
+  asked = c.commit_file.ensures.works.asked;
+}
+
+pub returns-clause-works : goal.returns-clause-works
+returns-clause-works g c = c.in-Ok.ensures.works

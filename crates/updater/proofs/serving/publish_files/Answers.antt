@@ -1,9 +1,9 @@
-use Rattle.std.proofs.Common.{◌-◌, ◌+◌, ◌∙◌, arith, refl}
+use Rattle.std.proofs.Common.{◌-◌, ◌+◌, ◌∙◌, arith, refl, None, Some}
 use Rattle.update_flow.specs.Updater.{handle_of}
 use Rattle.updater.specs.FileReads.{Among}
 use Rattle.updater.proofs.Asked.{asked_more, asked_none}
 use Rattle.updater.proofs.ServeRuns.{ends_in_serving, first_serving, last_serving, next_serving}
-use Rattle.updater.proofs.SoundRuns.{ends_well}
+use Rattle.updater.proofs.Keeping.{keeps_none, keeps_then}
 use Rattle.updater.proofs.serving.publish_files.Goals as goal
 
 pub loop-file-init : goal.loop-file-init
@@ -14,8 +14,7 @@ loop-file-init g c =
       within = omega arith;
       asked = asked_none g.I.Inputs.reads (Among c.args.files.first c.args.files.count) c.args.inputs.now
           (laws.reads_none c.args.inputs.now);
-      stays = record { same_disk = refl; same_limits = refl };
-      sound = λ opened. opened;
+      keeps = keeps_none c.args.store.now;
       begin = refl;
       shown = c.requires.shown;
       turn = λ old start done held asked readers head.
@@ -38,20 +37,14 @@ returns-in-Err-clause-serves g c = record {
       (c.loop-file.invariant.turn old start done held asked readers head)
       (g.I.Inputs.view c.publish_file.new.inputs) (handle_of c.publish_file.new.store)
       (g.S.Sink.view c.publish_file.new.out) c.in-Err.fault c.in-Err.ensures.publishes;
-  sound = λ opened. c.in-Err.ensures.sound (c.loop-file.invariant.sound opened);
 }
 
 pub returns-in-Err-clause-works : goal.returns-in-Err-clause-works
 returns-in-Err-clause-works g c =
     let laws = g.met.I.Inputs g.world.𝓛 g.world.𝓜 g.world.𝓡 ((λ s x. x), (λ x. x), (λ x. x), λ x. x) in
     record {
-      keeps = record {
-        stays = record {
-          same_disk = c.publish_file.ensures.works.keeps.stays.same_disk ∙ c.loop-file.invariant.stays.same_disk;
-          same_limits = c.publish_file.ensures.works.keeps.stays.same_limits ∙ c.loop-file.invariant.stays.same_limits;
-        };
-        formatted = c.in-Err.ensures.works.keeps.formatted;
-      };
+      keeps = keeps_then c.args.store.now c.loop-file.store (Some c.in-Err.fault) c.publish_file.new.store c.loop-file.invariant.keeps
+          c.in-Err.ensures.works.keeps;
       asked = asked_more g.I.Inputs.reads laws.reads_then
           (Among c.args.files.first c.args.files.count) c.args.inputs.now c.loop-file.inputs c.publish_file.new.inputs c.loop-file.file
           c.loop-file.invariant.asked c.publish_file.ensures.works.asked
@@ -68,11 +61,8 @@ loop-file-preserved g c =
           (Among c.args.files.first c.args.files.count) c.args.inputs.now c.loop-file.inputs c.publish_file.new.inputs c.loop-file.file
           c.loop-file.invariant.asked c.publish_file.ensures.works.asked
           (c.loop-file.invariant.least, omega (arith, c.loop-file-test.true));
-      stays = record {
-        same_disk = c.publish_file.ensures.works.keeps.stays.same_disk ∙ c.loop-file.invariant.stays.same_disk;
-        same_limits = c.publish_file.ensures.works.keeps.stays.same_limits ∙ c.loop-file.invariant.stays.same_limits;
-      };
-      sound = λ opened. (c.in-Ok.ensures.sound (c.loop-file.invariant.sound opened)).stays refl;
+      keeps = keeps_then c.args.store.now c.loop-file.store None c.publish_file.new.store c.loop-file.invariant.keeps
+          c.in-Ok.ensures.works.keeps;
       begin = c.publish_file.ensures.front.begin ∙ c.loop-file.invariant.begin;
       shown = c.in-Ok.ensures.front.shown;
       turn = λ old start done held asked readers head.
@@ -95,15 +85,11 @@ returns-clause-serves g c = record {
       (omega (arith, c.loop-file-test.false)) (omega (arith, c.loop-file-test.false, c.loop-file.invariant.within))
       (g.I.Inputs.view c.loop-file.inputs) (handle_of c.loop-file.store) (g.S.Sink.view c.loop-file.out) c.loop-file.publisher.front
       (c.loop-file.invariant.turn old start done held asked readers head);
-  sound = λ opened. ends_well (handle_of c.loop-file.store) (c.loop-file.invariant.sound opened);
 }
 
 pub returns-clause-works : goal.returns-clause-works
 returns-clause-works g c =
-    record {
-      keeps = record { stays = c.loop-file.invariant.stays; formatted = λ is. absurd (cc) };
-      asked = c.loop-file.invariant.asked;
-    }
+    record { keeps = c.loop-file.invariant.keeps; asked = c.loop-file.invariant.asked }
 
 pub returns-in-Err-clause-front : goal.returns-in-Err-clause-front
 returns-in-Err-clause-front g c =

@@ -1,16 +1,16 @@
-use Rattle.std.proofs.Common.{◌≡◌, ◌≤◌, ◌-◌, ℕ, List}
+use Rattle.std.proofs.Common.{◌≡◌, ◌≤◌, ◌-◌, ℕ, List, None}
 use Rattle.map_query.specs.declared.query.Query.{Query}
 use Rattle.reader_rounds.specs.Asking.{begin_of}
 use Rattle.update_flow.specs.Handle.{changes_of}
 use Rattle.update_flow.specs.State.{Holding, imported}
-use Rattle.update_flow.specs.Updater.{StaysOver, handle_of}
+use Rattle.update_flow.specs.Updater.{handle_of}
 use Rattle.updater.specs.Heads.{IsHead}
 use Rattle.run_promise.specs.Progress.{Progress}
 use Rattle.updater.specs.FileReads.{Among}
 use Rattle.run_promise.specs.Runs.{AsksOnly}
 use Rattle.updater.specs.Serving.{IsServing, ShowsFront}
 use Rattle.run_promise.specs.World.{Before}
-use Rattle.update_flow.specs.SoundTurns.{IsSoundlyOpen}
+use Rattle.updater.specs.Works.{KeepsOpen}
 use Rattle.updater.proofs.serving.publish_files.Given as goal
 
 -- the files so far are appended, told and shown, and the rest of the course leads on
@@ -19,8 +19,7 @@ invariant-loop-file g l = record {
   least : l.fn.files.first ≤ l.file;
   within : l.file ≤ l.end;
   asked : AsksOnly (λ asked. g.I.Inputs.reads l.fn.inputs asked l.inputs) (Among l.fn.files.first l.fn.files.count);
-  stays : StaysOver l.fn.store l.store;
-  sound : IsSoundlyOpen (handle_of l.fn.store) → IsSoundlyOpen (handle_of l.store);
+  keeps : KeepsOpen None l.fn.store l.store;
   begin : begin_of l.publisher.front ≡ begin_of l.fn.publisher.front;
   shown : ShowsFront (changes_of (handle_of l.store)) l.tables l.publisher.front;
   turn : (old : Before) (start done : Progress) (held : Holding) (asked : List Query) (readers : ℕ)

@@ -1,11 +1,11 @@
-use Rattle.std.proofs.Common.{◌+◌, ◌∙◌, List, ℕ, subst, sym, refl}
+use Rattle.std.proofs.Common.{◌+◌, ◌∙◌, List, ℕ, subst, sym}
 use Rattle.std.specs.String.{string_bytes}
 use Rattle.table_versions.specs.Fronts.{FrontOf}
 use Rattle.reader_rounds.specs.Asking.{AreAsking, begin_of, count_of}
 use Rattle.update_flow.specs.Updater.{handle_of}
 use Rattle.updater.specs.Serving.{IsServed}
 use Rattle.updater.proofs.ServeEnds.{served_fits, served_short, served_told}
-use Rattle.updater.proofs.SoundRuns.{told_ends}
+use Rattle.updater.proofs.Keeping.{keeps_short, keeps_told}
 use Rattle.updater.proofs.serving.serve_shown.Goals as goal
 
 pub served_text-requires-clause-asking : goal.served_text-requires-clause-asking
@@ -55,9 +55,17 @@ returns-clause-goes_on g c = λ old start done held head same shown.
     (g.S.Sink.view c.show_files.new.out)
     c.args.publisher.now.front c.show_files.new.publisher.front turn
 
-pub returns-in-Err-clause-sound : goal.returns-in-Err-clause-sound
-returns-in-Err-clause-sound g c = c.in-Err.ensures.serves.sound
+pub returns-in-Err-clause-works : goal.returns-in-Err-clause-works
+returns-in-Err-clause-works g c = c.in-Err.ensures.works
 
-pub returns-in-Ok-served_text-clause-sound : goal.returns-in-Ok-served_text-clause-sound
-returns-in-Ok-served_text-clause-sound g c = λ opened.
-    told_ends c.tell.result (handle_of c.show_files.new.store) c.tell.ensures.alone ((c.in-Ok.ensures.serves.sound opened).stays refl)
+pub returns-in-Ok-served_text-clause-works : goal.returns-in-Ok-served_text-clause-works
+returns-in-Ok-served_text-clause-works g c = record {
+  keeps = keeps_told c.args.store.now c.show_files.new.store c.in-Ok.ensures.works.keeps c.tell.result c.tell.ensures.alone;
+  asked = c.show_files.ensures.works.asked;
+}
+
+pub returns-clause-works : goal.returns-clause-works
+returns-clause-works g c = record {
+  keeps = keeps_short c.args.store.now c.show_files.new.store c.in-Ok.ensures.works.keeps;
+  asked = c.show_files.ensures.works.asked;
+}

@@ -18,8 +18,8 @@ returns-in-Err-clause-leads g c = λ old start done held head.
 pub returns-clause-local : goal.returns-clause-local
 returns-clause-local g c = c.in-Ok.ensures.local
 
-pub returns-in-Err-clause-sound : goal.returns-in-Err-clause-sound
-returns-in-Err-clause-sound g c = c.in-Err.ensures.sound
+pub returns-in-Err-clause-works : goal.returns-in-Err-clause-works
+returns-in-Err-clause-works g c = c.in-Err.ensures.works
 
-pub returns-clause-sound : goal.returns-clause-sound
-returns-clause-sound g c = c.in-Ok.ensures.sound
+pub returns-clause-works : goal.returns-clause-works
+returns-clause-works g c = c.in-Ok.ensures.works

@@ -1,15 +1,15 @@
-use Rattle.std.proofs.Common.{◌≤◌, ◌-◌, ℕ, List}
+use Rattle.std.proofs.Common.{◌≤◌, ◌-◌, ℕ, List, None}
 use Rattle.page_journal.specs.Crash.{IsAtRest}
 use Rattle.update_flow.specs.Handle.{IsOpen, view_of}
 use Rattle.update_flow.specs.State.{Holding, imported}
-use Rattle.update_flow.specs.Updater.{StaysOver, handle_of}
+use Rattle.update_flow.specs.Updater.{handle_of}
 use Rattle.updater.specs.Heads.{IsHead, IsVersion}
 use Rattle.updater.specs.Versions.{AppendsSoFar}
 use Rattle.run_promise.specs.Progress.{Progress}
 use Rattle.updater.specs.FileReads.{Among}
 use Rattle.run_promise.specs.Runs.{AsksOnly}
 use Rattle.run_promise.specs.World.{Before}
-use Rattle.update_flow.specs.SoundTurns.{IsSoundlyOpen}
+use Rattle.updater.specs.Works.{KeepsOpen}
 use Rattle.updater.proofs.versions.append_files.Given as goal
 
 -- the files so far are appended and told, and the rest of the course leads on
@@ -18,8 +18,7 @@ invariant-loop-file g l = record {
   least : l.fn.files.first ≤ l.file;
   within : l.file ≤ l.end;
   asked : AsksOnly (λ asked. g.I.Inputs.reads l.fn.inputs asked l.inputs) (Among l.fn.files.first l.fn.files.count);
-  stays : StaysOver l.fn.store l.store;
-  sound : IsSoundlyOpen (handle_of l.fn.store) → IsSoundlyOpen (handle_of l.store);
+  keeps : KeepsOpen None l.fn.store l.store;
   turn : (old : Before) (start done : Progress) (held : Holding)
       → IsHead start done (imported held) l.fn.files.first old (g.I.Inputs.view l.fn.inputs) (handle_of l.fn.store) (g.S.Sink.view l.fn.out)
       → IsVersion l.fn.bounds held l.fn.files.first l.fn.files.count start done l.file (l.end - l.file) old (g.I.Inputs.view l.inputs)

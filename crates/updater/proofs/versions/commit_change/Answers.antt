@@ -12,7 +12,7 @@ use Rattle.updater.proofs.ServeRuns.{next_by}
 use Rattle.updater.proofs.StoreRuns.{held_certain}
 use Rattle.updater.proofs.StoreDeeds.{shows_here, refused_so}
 use Rattle.updater.proofs.VersionRuns.{step_refused, these_refused, these_told, version_done, version_told}
-use Rattle.updater.proofs.SoundRuns.{ends_well, step_goes, step_stops, told_ends}
+use Rattle.updater.proofs.Keeping.{keeps_step, keeps_told, keeps_unstepped}
 use Rattle.updater.proofs.versions.commit_change.Goals as goal
 
 pub returns-in-Err-clause-leads : goal.returns-in-Err-clause-leads
@@ -140,17 +140,17 @@ returns-in-Err-tell_version-clause-grows g c = λ next files old start done held
     (ap version_line (c.in-Ok.ensures.version ∙ ap (λ n. n + 1) shown.changes_are))
     tt c.in-Err-tell_version.ensures.err c.in-Err-tell_version.ensures.alone c.in-Err-tell_version.ensures.cause
 
-pub returns-in-Err-clause-sound : goal.returns-in-Err-clause-sound
-returns-in-Err-clause-sound g c = rw c.in_flow.ensures.fault (λ opened.
-    step_stops c.in-Err.fault (handle_of c.args.store.now) opened (handle_of c.append_one.new.self) _
-    (handle_of c.append_one.new.self) c.in-Err.ensures.sound)
+pub returns-in-Err-clause-keeps : goal.returns-in-Err-clause-keeps
+returns-in-Err-clause-keeps g c = rw c.in_flow.ensures.fault
+    (keeps_unstepped c.args.store.now c.append_one.new.self c.in-Err.fault _ c.append_one.ensures.stays.over
+    c.in-Err.ensures.stays.alone c.in-Err.ensures.sound)
 
-pub returns-in-Ok-tell_version-clause-sound : goal.returns-in-Ok-tell_version-clause-sound
-returns-in-Ok-tell_version-clause-sound g c = λ opened.
-    ends_well (handle_of c.append_one.new.self)
-    (step_goes _ (handle_of c.args.store.now) (handle_of c.append_one.new.self) c.in-Ok.ensures.sound opened)
+pub returns-in-Ok-tell_version-clause-keeps : goal.returns-in-Ok-tell_version-clause-keeps
+returns-in-Ok-tell_version-clause-keeps g c =
+    keeps_step c.args.store.now c.append_one.new.self _ c.append_one.ensures.stays.over c.in-Ok.ensures.sound
 
-pub returns-in-Err-tell_version-clause-sound : goal.returns-in-Err-tell_version-clause-sound
-returns-in-Err-tell_version-clause-sound g c = λ opened.
-    told_ends (Err c.in-Err-tell_version.fault) (handle_of c.append_one.new.self) c.in-Err-tell_version.ensures.alone
-    (step_goes _ (handle_of c.args.store.now) (handle_of c.append_one.new.self) c.in-Ok.ensures.sound opened)
+pub returns-in-Err-tell_version-clause-keeps : goal.returns-in-Err-tell_version-clause-keeps
+returns-in-Err-tell_version-clause-keeps g c =
+    keeps_told c.args.store.now c.append_one.new.self
+    (keeps_step c.args.store.now c.append_one.new.self _ c.append_one.ensures.stays.over c.in-Ok.ensures.sound)
+    (Err c.in-Err-tell_version.fault) c.in-Err-tell_version.ensures.alone

@@ -3,7 +3,7 @@ use Rattle.update_flow.specs.State.{Append, changed, imported}
 use Rattle.update_flow.specs.Updater.{handle_of}
 use Rattle.run_promise.specs.Courses.{version_line}
 use Rattle.updater.proofs.VersionRuns.{file_unread}
-use Rattle.updater.proofs.SoundRuns.{unread_ends}
+use Rattle.updater.proofs.Keeping.{keeps_unread}
 use Rattle.updater.proofs.versions.commit_file.Goals as goal
 
 pub returns-in-Err-clause-leads : goal.returns-in-Err-clause-leads
@@ -20,9 +20,11 @@ returns-clause-leads g c = λ old start done held head.
     (g.I.Inputs.view c.read_change.new.inputs) old start done held
     c.in-Ok.ensures.reads.ok head
 
-pub returns-in-Err-clause-sound : goal.returns-in-Err-clause-sound
-returns-in-Err-clause-sound g c = λ opened.
-    unread_ends _ _ c.in-Err.fault _ _ (handle_of c.args.store.now) c.in-Err.ensures.reads.err
+pub returns-in-Err-clause-works : goal.returns-in-Err-clause-works
+returns-in-Err-clause-works g c = record {
+  keeps = keeps_unread _ _ c.in-Err.fault _ _ c.args.store.now c.in-Err.ensures.reads.err;
+  asked = c.read_change.ensures.reads.asked;
+}
 
-pub returns-clause-sound : goal.returns-clause-sound
-returns-clause-sound g c = c.commit_change.ensures.sound
+pub returns-clause-works : goal.returns-clause-works
+returns-clause-works g c = record { keeps = c.commit_change.ensures.keeps; asked = c.read_change.ensures.reads.asked }

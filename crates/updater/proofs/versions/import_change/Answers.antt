@@ -5,7 +5,7 @@ use Rattle.update_flow.specs.Updater.{handle_of}
 use Rattle.run_promise.specs.Courses.{version_line}
 use Rattle.updater.proofs.VersionRuns.{these_refused, these_told}
 use Rattle.updater.proofs.StoreDeeds.{IsRefusedSo, refused_so}
-use Rattle.updater.proofs.SoundRuns.{step_goes, step_stops, told_ends}
+use Rattle.updater.proofs.Keeping.{keeps_step, keeps_told, keeps_unstepped}
 use Rattle.updater.proofs.versions.import_change.Goals as goal
 
 pub returns-in-Err-clause-leads : goal.returns-in-Err-clause-leads
@@ -42,12 +42,13 @@ returns-clause-leads g c = λ next files old start done head.
     (version_line 0) (g.S.Sink.view c.tell_version.new.out) c.tell_version.result refl c.tell_version.ensures.ok c.tell_version.ensures.err
     c.tell_version.ensures.alone c.tell_version.ensures.cause
 
-pub returns-in-Err-clause-sound : goal.returns-in-Err-clause-sound
-returns-in-Err-clause-sound g c = rw c.in_flow.ensures.fault (λ opened.
-    step_stops c.in-Err.fault (handle_of c.args.store.now) opened (handle_of c.import.new.self) _
-    (handle_of c.import.new.self) c.in-Err.ensures.sound)
+pub returns-in-Err-clause-keeps : goal.returns-in-Err-clause-keeps
+returns-in-Err-clause-keeps g c = rw c.in_flow.ensures.fault
+    (keeps_unstepped c.args.store.now c.import.new.self c.in-Err.fault _ c.import.ensures.stays.over c.in-Err.ensures.stays.alone
+    c.in-Err.ensures.sound)
 
-pub returns-clause-sound : goal.returns-clause-sound
-returns-clause-sound g c = λ opened.
-    told_ends c.tell_version.result (handle_of c.import.new.self) c.tell_version.ensures.alone
-    (step_goes _ (handle_of c.args.store.now) (handle_of c.import.new.self) c.in_default.ensures.sound opened)
+pub returns-clause-keeps : goal.returns-clause-keeps
+returns-clause-keeps g c =
+    keeps_told c.args.store.now c.import.new.self
+    (keeps_step c.args.store.now c.import.new.self _ c.import.ensures.stays.over c.in_default.ensures.sound)
+    c.tell_version.result c.tell_version.ensures.alone

@@ -5,7 +5,7 @@ use Rattle.update_flow.specs.Updater.{handle_of}
 use Rattle.run_promise.specs.Courses.{version_line}
 use Rattle.run_promise.specs.Progress.{past}
 use Rattle.updater.proofs.VersionRuns.{file_read, file_unread}
-use Rattle.updater.proofs.SoundRuns.{unread_ends}
+use Rattle.updater.proofs.Keeping.{keeps_unread}
 use Rattle.updater.proofs.versions.import_file.Goals as goal
 
 pub returns-in-Err-clause-leads : goal.returns-in-Err-clause-leads
@@ -27,9 +27,11 @@ returns-clause-leads g c = λ old start done head.
     (g.S.Sink.view c.import_change.new.out)
     (λ head. c.import_change.ensures.leads (c.args.file + 1) read old start (past c.args.file done) head)
 
-pub returns-in-Err-clause-sound : goal.returns-in-Err-clause-sound
-returns-in-Err-clause-sound g c = λ opened.
-    unread_ends _ _ c.in-Err.fault _ _ (handle_of c.args.store.now) c.in-Err.ensures.reads.err
+pub returns-in-Err-clause-works : goal.returns-in-Err-clause-works
+returns-in-Err-clause-works g c = record {
+  keeps = keeps_unread _ _ c.in-Err.fault _ _ c.args.store.now c.in-Err.ensures.reads.err;
+  asked = c.read_change.ensures.reads.asked;
+}
 
-pub returns-clause-sound : goal.returns-clause-sound
-returns-clause-sound g c = c.import_change.ensures.sound
+pub returns-clause-works : goal.returns-clause-works
+returns-clause-works g c = record { keeps = c.import_change.ensures.keeps; asked = c.read_change.ensures.reads.asked }

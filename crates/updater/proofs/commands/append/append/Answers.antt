@@ -39,6 +39,7 @@ returns-in-Err-clause-does g c =
     )
 
 -- the store of a follower
+
 pub returns-in_default-clause-does : goal.returns-in_default-clause-does
 returns-in_default-clause-does g c =
     let laws = g.met.D.Disk in
@@ -88,7 +89,7 @@ returns-clause-does g c =
             (handle_of c.over-store.result) (handle_of c.append_store-done.new.store)
             (λ bytes told sound. c.over-store.ensures.sound
             (sound_some c.in-Ok.found c.in-Some.opened c.in-Some.is (g.D.Disk.view c.open.new.disk) (c.in-Ok.ensures.sound bytes told sound).found))
-            c.append_store-done.ensures.sound;
+            c.append_store-done.ensures.works.keeps.sound;
       },
     )
 

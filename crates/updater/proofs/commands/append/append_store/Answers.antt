@@ -9,12 +9,11 @@ use Rattle.run_promise.specs.Files.{IsBounds}
 use Rattle.run_promise.specs.Progress.{past}
 use Rattle.updater.specs.FileReads.{Among}
 use Rattle.run_promise.specs.World.{world}
-use Rattle.updater.proofs.NoStoreFaults.{unread_never}
 use Rattle.updater.proofs.Asked.{asked_among, asked_more, asked_none, asked_then}
 use Rattle.updater.proofs.LocalLaws.{appends_all, on_ok_so}
 use Rattle.updater.proofs.AheadRuns.{takes_changes}
 use Rattle.updater.proofs.StoreRuns.{first_read, first_unread, if_there, leads_ends, not_yet, outdated_there}
-use Rattle.updater.proofs.SoundRuns.{unread_ends}
+use Rattle.updater.proofs.Keeping.{keeps_unread}
 use Rattle.updater.proofs.commands.append.append_store.Goals as goal
 
 pub returns-then-old-clause-goes_on : goal.returns-then-old-clause-goes_on
@@ -57,10 +56,7 @@ returns-in-Err-clause-works g c =
     let files = c.args.files in
     let some = c.requires.fits.0.fit.some in
     record {
-      keeps = record {
-        stays = record { same_disk = refl; same_limits = refl };
-        formatted = unread_never _ _ _ _ _ c.in-Err.ensures.reads.err;
-      };
+      keeps = keeps_unread _ _ c.in-Err.fault _ _ c.args.store.now c.in-Err.ensures.reads.err;
       asked =
           asked_more g.I.Inputs.reads laws.reads_then
           (Among files.first files.count) c.args.inputs.now c.args.inputs.now c.read_bounds_file.new.inputs files.first
@@ -111,10 +107,7 @@ returns-clause-works g c =
     let files = c.args.files in
     let some = c.requires.fits.0.fit.some in
     record {
-      keeps = record {
-        stays = c.append_ahead.ensures.works.keeps.stays;
-        formatted = c.append_ahead.ensures.works.keeps.formatted;
-      };
+      keeps = c.append_ahead.ensures.works.keeps;
       asked =
           asked_then g.I.Inputs.reads laws.reads_then
           (Among files.first files.count) c.args.inputs.now c.read_bounds_file.new.inputs c.append_ahead.new.inputs
@@ -137,10 +130,3 @@ pub append_ahead-requires-clause-takes : goal.append_ahead-requires-clause-takes
 append_ahead-requires-clause-takes g c = λ lifetimes fit. takes_changes (handle_of c.args.store.now)
     (sym c.imported.ensures.is ∙ c.if-not-imported.false)
     (sym c.old.ensures.is ∙ c.if-old.false)
-
-pub returns-in-Err-clause-sound : goal.returns-in-Err-clause-sound
-returns-in-Err-clause-sound g c = λ opened.
-    unread_ends _ _ c.in-Err.fault _ _ (handle_of c.args.store.now) c.in-Err.ensures.reads.err
-
-pub returns-clause-sound : goal.returns-clause-sound
-returns-clause-sound g c = c.append_ahead.ensures.ahead.sound

@@ -8,6 +8,7 @@ use Rattle.run_promise.specs.Courses.{fills_demo, growing, summing}
 use Rattle.run_promise.specs.World.{world}
 use Rattle.updater.proofs.DemoRuns.{demo_grown, demo_stopped}
 use Rattle.updater.proofs.StoreRuns.{if_made, never_blank}
+use Rattle.updater.proofs.Keeping.{keeps_then}
 use Rattle.updater.proofs.commands.demo.fill_demo.Goals as goal
 
 pub returns-then-imported-clause-goes_on : goal.returns-then-imported-clause-goes_on
@@ -45,27 +46,14 @@ returns-clause-goes_on g c = λ old start done state head.
     (λ further held head. c.tell_summary.ensures.goes_on old files start further held 0 head))
 
 pub returns-in-Err-clause-keeps : goal.returns-in-Err-clause-keeps
-returns-in-Err-clause-keeps g c = record {
-  stays = c.import_demo.ensures.keeps.stays;
-  formatted = c.in-Err.ensures.keeps.formatted;
-}
+returns-in-Err-clause-keeps g c = c.in-Err.ensures.keeps
 
 pub returns-in-Err-grow_demo-clause-keeps : goal.returns-in-Err-grow_demo-clause-keeps
-returns-in-Err-grow_demo-clause-keeps g c = record {
-  stays = record {
-    same_disk = c.grow_demo.ensures.keeps.stays.same_disk ∙ c.import_demo.ensures.keeps.stays.same_disk;
-    same_limits = c.grow_demo.ensures.keeps.stays.same_limits ∙ c.import_demo.ensures.keeps.stays.same_limits;
-  };
-  formatted = c.in-Err-grow_demo.ensures.keeps.formatted;
-}
+returns-in-Err-grow_demo-clause-keeps g c =
+    keeps_then c.args.store.now c.import_demo.new.store _ c.grow_demo.new.store c.in-Ok.ensures.keeps c.in-Err-grow_demo.ensures.keeps
 
 pub returns-clause-keeps : goal.returns-clause-keeps
-returns-clause-keeps g c = record {
-  stays = record {
-    same_disk = c.tell_summary.ensures.keeps.stays.same_disk ∙ c.grow_demo.ensures.keeps.stays.same_disk
-        ∙ c.import_demo.ensures.keeps.stays.same_disk;
-    same_limits = c.tell_summary.ensures.keeps.stays.same_limits ∙ c.grow_demo.ensures.keeps.stays.same_limits
-        ∙ c.import_demo.ensures.keeps.stays.same_limits;
-  };
-  formatted = c.tell_summary.ensures.keeps.formatted;
-}
+returns-clause-keeps g c =
+    keeps_then c.args.store.now c.import_demo.new.store _ c.tell_summary.new.store c.in-Ok.ensures.keeps
+    (keeps_then c.import_demo.new.store c.grow_demo.new.store _ c.tell_summary.new.store c.in-Ok-grow_demo.ensures.keeps
+    c.tell_summary.ensures.keeps)

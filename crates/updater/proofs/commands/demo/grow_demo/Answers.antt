@@ -1,4 +1,4 @@
-use Rattle.std.proofs.Common.{◌+◌, ◌∙◌, Some, None, refl}
+use Rattle.std.proofs.Common.{◌+◌, Some, None, refl}
 use Rattle.demo_map.specs.Demo.{demo_first, demo_second}
 use Rattle.demo_map.specs.Style.{demo_bounds}
 use Rattle.update_flow.specs.State.{Append, changed, imported}
@@ -7,6 +7,7 @@ use Rattle.run_promise.specs.declared.fault.Fault.TheVariants as faults
 use Rattle.run_promise.specs.Courses.{growing, version_line}
 use Rattle.updater.proofs.DemoRuns.{grows_as, first_grown}
 use Rattle.updater.proofs.VersionRuns.{these_short}
+use Rattle.updater.proofs.Keeping.{keeps_short, keeps_then}
 use Rattle.updater.proofs.commands.demo.grow_demo.Goals as goal
 
 pub returns-in-Err-clause-leads : goal.returns-in-Err-clause-leads
@@ -69,31 +70,17 @@ returns-clause-leads g c = λ next files old start done held head.
     files last_now last_new (c.in-Ok-commit_change-2.ensures.grows next files old start further held head))
 
 pub returns-in-Err-commit_change-clause-keeps : goal.returns-in-Err-commit_change-clause-keeps
-returns-in-Err-commit_change-clause-keeps g c = record {
-  stays = c.commit_change.ensures.keeps.stays;
-  formatted = c.in-Err-commit_change.ensures.keeps.formatted;
-}
+returns-in-Err-commit_change-clause-keeps g c = c.in-Err-commit_change.ensures.keeps
 
 pub returns-in-Err-second_change_of-clause-keeps : goal.returns-in-Err-second_change_of-clause-keeps
-returns-in-Err-second_change_of-clause-keeps g c = record {
-  stays = c.commit_change.ensures.keeps.stays;
-  formatted = λ is. absurd (cc);
-}
+returns-in-Err-second_change_of-clause-keeps g c = keeps_short c.args.store.now c.commit_change.new.store c.in-Ok-commit_change.ensures.keeps
 
 pub returns-in-Err-commit_change-2-clause-keeps : goal.returns-in-Err-commit_change-2-clause-keeps
-returns-in-Err-commit_change-2-clause-keeps g c = record {
-  stays = record {
-    same_disk = c.commit_change-2.ensures.keeps.stays.same_disk ∙ c.commit_change.ensures.keeps.stays.same_disk;
-    same_limits = c.commit_change-2.ensures.keeps.stays.same_limits ∙ c.commit_change.ensures.keeps.stays.same_limits;
-  };
-  formatted = c.in-Err-commit_change-2.ensures.keeps.formatted;
-}
+returns-in-Err-commit_change-2-clause-keeps g c =
+    keeps_then c.args.store.now c.commit_change.new.store _ c.commit_change-2.new.store c.in-Ok-commit_change.ensures.keeps
+    c.in-Err-commit_change-2.ensures.keeps
 
 pub returns-clause-keeps : goal.returns-clause-keeps
-returns-clause-keeps g c = record {
-  stays = record {
-    same_disk = c.commit_change-2.ensures.keeps.stays.same_disk ∙ c.commit_change.ensures.keeps.stays.same_disk;
-    same_limits = c.commit_change-2.ensures.keeps.stays.same_limits ∙ c.commit_change.ensures.keeps.stays.same_limits;
-  };
-  formatted = λ is. absurd (cc);
-}
+returns-clause-keeps g c =
+    keeps_then c.args.store.now c.commit_change.new.store _ c.commit_change-2.new.store c.in-Ok-commit_change.ensures.keeps
+    c.in-Ok-commit_change-2.ensures.keeps

@@ -66,11 +66,12 @@ returns-in-Updates g c =
             (λ bytes told sound. c.over-store.ensures.sound
             (updates_sound c.in-Ok.found c.in-Updates.opened c.in-Updates.is (g.D.Disk.view c.open_either.new.disk)
             (c.in-Ok.ensures.sound bytes told sound).found))
-            c.export_store-done.ensures.sound;
+            c.export_store-done.ensures.keeps.sound;
       };
     }
 
 -- the store of a follower
+
 pub returns-in-Follows : goal.returns-in-Follows
 returns-in-Follows g c =
     let laws = g.met.D.Disk in

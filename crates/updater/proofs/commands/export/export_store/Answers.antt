@@ -14,7 +14,7 @@ use Rattle.updater.proofs.StoreRuns.{exports_found, exports_own, found_table, he
 use Rattle.updater.proofs.StoreRuns.{not_yet, outdated_there, same_style, unknown_table}
 use Rattle.updater.proofs.TableLaws.{only_text}
 use Rattle.updater.proofs.StoreDeeds.{refused_so}
-use Rattle.updater.proofs.SoundRuns.{look_goes, look_stops, told_ends}
+use Rattle.updater.proofs.Keeping.{keeps_look, keeps_short, keeps_told, keeps_unlooked}
 use Rattle.updater.proofs.commands.export.export_store.Goals as goal
 
 pub returns-then-old-clause-goes_on : goal.returns-then-old-clause-goes_on
@@ -110,12 +110,17 @@ returns-clause-goes_on g c = λ old start done state head.
     (look_short start done held 0 old files (handle_of c.args.store.now) (handle_of c.load_table.new.self) output head
     (λ (own : List ℕ). own ≡ table_text held.style (tables held.style held.objects) number) ends sure)))
 
-pub returns-in-Err-clause-sound : goal.returns-in-Err-clause-sound
-returns-in-Err-clause-sound g c = rw c.in_flow.ensures.fault (λ opened.
-    look_stops c.in-Err.fault (handle_of c.args.store.now) opened (handle_of c.load_table.new.self)
-    (handle_of c.load_table.new.self) c.in-Err.ensures.sound)
+pub returns-in-Err-clause-keeps : goal.returns-in-Err-clause-keeps
+returns-in-Err-clause-keeps g c = rw c.in_flow.ensures.fault
+    (keeps_unlooked c.args.store.now c.load_table.new.self c.in-Err.fault c.load_table.ensures.stays.over c.in-Err.ensures.stays.alone
+    c.in-Err.ensures.sound)
 
-pub returns-in-Ok-text-clause-sound : goal.returns-in-Ok-text-clause-sound
-returns-in-Ok-text-clause-sound g c = λ opened.
-    told_ends c.tell.result (handle_of c.load_table.new.self) c.tell.ensures.alone
-    (look_goes (handle_of c.args.store.now) (handle_of c.load_table.new.self) c.in-Ok.ensures.sound opened)
+pub returns-in-Ok-text-clause-keeps : goal.returns-in-Ok-text-clause-keeps
+returns-in-Ok-text-clause-keeps g c =
+    keeps_told c.args.store.now c.load_table.new.self
+    (keeps_look c.args.store.now c.load_table.new.self c.load_table.ensures.stays.over c.in-Ok.ensures.sound)
+    c.tell.result c.tell.ensures.alone
+
+pub returns-clause-keeps : goal.returns-clause-keeps
+returns-clause-keeps g c =
+    keeps_short c.args.store.now c.load_table.new.self (keeps_look c.args.store.now c.load_table.new.self c.load_table.ensures.stays.over c.in-Ok.ensures.sound)

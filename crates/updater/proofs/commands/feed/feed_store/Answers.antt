@@ -8,11 +8,10 @@ use Rattle.run_promise.specs.Files.{IsBounds}
 use Rattle.run_promise.specs.Progress.{past}
 use Rattle.run_promise.specs.World.{world}
 use Rattle.updater.specs.FileReads.{Among}
-use Rattle.updater.proofs.NoStoreFaults.{unread_never}
 use Rattle.updater.proofs.Asked.{asked_among, asked_more, asked_none, asked_then}
 use Rattle.updater.proofs.FeedRuns.{behind_full}
 use Rattle.updater.proofs.StoreRuns.{first_read, first_unread, if_there, not_yet, outdated_there}
-use Rattle.updater.proofs.SoundRuns.{unread_ends}
+use Rattle.updater.proofs.Keeping.{keeps_then, keeps_unread}
 use Rattle.updater.proofs.commands.feed.feed_store.Goals as goal
 
 pub returns-then-old-clause-goes_on : goal.returns-then-old-clause-goes_on
@@ -43,10 +42,7 @@ returns-in-Err-clause-works g c =
     let files = c.args.files in
     let some = c.requires.fits.fit.some in
     record {
-      keeps = record {
-        stays = record { same_disk = refl; same_limits = refl };
-        formatted = unread_never _ _ _ _ _ c.in-Err.ensures.reads.err;
-      };
+      keeps = keeps_unread _ _ c.in-Err.fault _ _ c.args.store.now c.in-Err.ensures.reads.err;
       asked =
           asked_more g.I.Inputs.reads laws.reads_then
           (Among files.first files.count) c.args.inputs.now c.args.inputs.now c.read_bounds_file.new.inputs files.first
@@ -117,13 +113,8 @@ returns-clause-works g c =
     let files = c.args.files in
     let some = c.requires.fits.fit.some in
     record {
-      keeps = record {
-        stays = record {
-          same_disk = c.feed_files.ensures.works.keeps.stays.same_disk ∙ c.feed_full.ensures.keeps.stays.same_disk;
-          same_limits = c.feed_files.ensures.works.keeps.stays.same_limits ∙ c.feed_full.ensures.keeps.stays.same_limits;
-        };
-        formatted = c.feed_files.ensures.works.keeps.formatted;
-      };
+      keeps = keeps_then c.args.store.now c.feed_full.new.store _ c.feed_files.new.store c.in-Ok-feed_full.ensures.keeps
+          c.feed_files.ensures.works.keeps;
       asked =
           asked_then g.I.Inputs.reads laws.reads_then
           (Among files.first files.count) c.args.inputs.now c.read_bounds_file.new.inputs c.feed_files.new.inputs
@@ -135,13 +126,3 @@ returns-clause-works g c =
           (Among (files.first + 1) (files.count - 1)) (Among files.first files.count)
           (λ file among. (omega (arith, among.0), omega (arith, among.1, some))) c.feed_files.ensures.works.asked);
     }
-
-pub returns-in-Err-clause-sound : goal.returns-in-Err-clause-sound
-returns-in-Err-clause-sound g c = λ opened.
-    unread_ends _ _ c.in-Err.fault _ _ (handle_of c.args.store.now) c.in-Err.ensures.reads.err
-
-pub returns-in-Err-feed_full-clause-sound : goal.returns-in-Err-feed_full-clause-sound
-returns-in-Err-feed_full-clause-sound g c = c.in-Err-feed_full.ensures.sound
-
-pub returns-clause-sound : goal.returns-clause-sound
-returns-clause-sound g c = λ opened. c.feed_files.ensures.sound ((c.in-Ok-feed_full.ensures.sound opened).stays refl)

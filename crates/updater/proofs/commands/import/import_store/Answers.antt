@@ -9,10 +9,9 @@ use Rattle.run_promise.specs.Files.{IsStyle}
 use Rattle.run_promise.specs.Progress.{past}
 use Rattle.updater.specs.FileReads.{Among}
 use Rattle.run_promise.specs.World.{world}
-use Rattle.updater.proofs.NoStoreFaults.{unread_never}
 use Rattle.updater.proofs.Asked.{asked_more, asked_none}
 use Rattle.updater.proofs.StoreRuns.{already, first_read, first_unread, if_new, leads_ends, outdated_new}
-use Rattle.updater.proofs.SoundRuns.{unread_ends}
+use Rattle.updater.proofs.Keeping.{keeps_unread}
 use Rattle.updater.proofs.commands.import.import_store.Goals as goal
 
 pub returns-then-old-clause-goes_on : goal.returns-then-old-clause-goes_on
@@ -42,10 +41,7 @@ returns-in-Err-clause-works g c =
     let files = c.args.files in
     let fits = c.requires.fits.0.fit.some in
     record {
-      keeps = record {
-        stays = record { same_disk = refl; same_limits = refl };
-        formatted = unread_never _ _ _ _ _ c.in-Err.ensures.reads.err;
-      };
+      keeps = keeps_unread _ _ c.in-Err.fault _ _ c.args.store.now c.in-Err.ensures.reads.err;
       asked =
           asked_more g.I.Inputs.reads laws.reads_then
           (Among files.first files.count) c.args.inputs.now c.args.inputs.now c.read_style_file.new.inputs files.first
@@ -87,10 +83,7 @@ returns-clause-works g c =
     let files = c.args.files in
     let two = c.requires.fits.1 in
     record {
-      keeps = record {
-        stays = c.import_file.ensures.works.keeps.stays;
-        formatted = c.import_file.ensures.works.keeps.formatted;
-      };
+      keeps = c.import_file.ensures.works.keeps;
       asked =
           asked_more g.I.Inputs.reads laws.reads_then
           (Among files.first files.count) c.args.inputs.now c.read_style_file.new.inputs c.import_file.new.inputs (files.first + 1)
@@ -100,10 +93,3 @@ returns-clause-works g c =
           c.read_style_file.ensures.reads.asked (omega arith, omega (arith, two)))
           c.import_file.ensures.works.asked (omega arith, omega (arith, two));
     }
-
-pub returns-in-Err-clause-sound : goal.returns-in-Err-clause-sound
-returns-in-Err-clause-sound g c = λ opened.
-    unread_ends _ _ c.in-Err.fault _ _ (handle_of c.args.store.now) c.in-Err.ensures.reads.err
-
-pub returns-clause-sound : goal.returns-clause-sound
-returns-clause-sound g c = c.import_file.ensures.sound

@@ -31,6 +31,7 @@ returns-in-Err g c =
     })
 
 -- the store of a follower
+
 pub returns-in_default : goal.returns-in_default
 returns-in_default g c =
     let laws = g.met.D.Disk in
@@ -77,6 +78,6 @@ returns g c =
             (handle_of c.over-store.result) (handle_of c.migrate_store-done.new.store)
             (λ bytes told sound. c.over-store.ensures.sound
             (sound_some c.in-Ok.found c.in-Some.opened c.in-Some.is (g.D.Disk.view c.open.new.disk) (c.in-Ok.ensures.sound bytes told sound).found))
-            c.migrate_store-done.ensures.sound;
+            c.migrate_store-done.ensures.keeps.sound;
       };
     }

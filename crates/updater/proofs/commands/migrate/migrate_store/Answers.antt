@@ -2,7 +2,10 @@ use Rattle.std.proofs.Common.{◌∙◌, Err, ap, sym, refl}
 use Rattle.update_flow.specs.Updater.{handle_of}
 use Rattle.updater.proofs.MigrateRuns.{has_format, migrate_done, migrate_refused, none_there}
 use Rattle.updater.proofs.StoreDeeds.{refused_so}
-use Rattle.updater.proofs.SoundRuns.{never_old, told_ends}
+use Rattle.updater.proofs.SoundRuns.{never_old}
+use Rattle.updater.proofs.Keeping.{keeps_none, keeps_told}
+use Rattle.updater.proofs.InitRuns.{never_untold}
+use Rattle.updater.proofs.NoStoreFaults.{call_never}
 use Rattle.updater.proofs.commands.migrate.migrate_store.Goals as goal
 
 pub returns-then-not-imported-clause-goes_on : goal.returns-then-not-imported-clause-goes_on
@@ -40,14 +43,19 @@ returns-in-Err-clause-goes_on g c = rw c.in_flow.ensures.fault (λ old start don
     (handle_of c.migrate.new.self) c.in-Err.fault c.in-Err.ensures.takes (refused_so c.in-Err.ensures.stays)
     (λ is. c.in-Err.ensures.never (ap Err is)))
 
-pub returns-then-not-old-clause-sound : goal.returns-then-not-old-clause-sound
-returns-then-not-old-clause-sound g c = λ opened.
-    told_ends c.tell.result (handle_of c.args.store.now) c.tell.ensures.alone opened
+pub returns-then-not-old-clause-keeps : goal.returns-then-not-old-clause-keeps
+returns-then-not-old-clause-keeps g c = keeps_told c.args.store.now c.args.store.now (keeps_none c.args.store.now) c.tell.result c.tell.ensures.alone
 
-pub returns-in-Ok-clause-sound : goal.returns-in-Ok-clause-sound
-returns-in-Ok-clause-sound g c = λ opened.
-    absurd (never_old (handle_of c.args.store.now) opened (sym c.old.ensures.is ∙ c.if-not-old.false))
+pub returns-in-Ok-clause-keeps : goal.returns-in-Ok-clause-keeps
+returns-in-Ok-clause-keeps g c = record {
+  stays = c.migrate.ensures.stays.over;
+  formatted = λ is. never_untold c.tell-in-Ok.result _ c.tell-in-Ok.ensures.alone is;
+  sound = λ opened. absurd (never_old (handle_of c.args.store.now) opened (sym c.old.ensures.is ∙ c.if-not-old.false));
+}
 
-pub returns-in-Err-clause-sound : goal.returns-in-Err-clause-sound
-returns-in-Err-clause-sound g c = λ opened.
-    absurd (never_old (handle_of c.args.store.now) opened (sym c.old.ensures.is ∙ c.if-not-old.false))
+pub returns-in-Err-clause-keeps : goal.returns-in-Err-clause-keeps
+returns-in-Err-clause-keeps g c = rw c.in_flow.ensures.fault (record {
+  stays = c.migrate.ensures.stays.over;
+  formatted = call_never c.in-Err.fault c.in-Err.ensures.stays.alone;
+  sound = λ opened. absurd (never_old (handle_of c.args.store.now) opened (sym c.old.ensures.is ∙ c.if-not-old.false));
+})

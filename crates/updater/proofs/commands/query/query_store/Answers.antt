@@ -14,13 +14,11 @@ use Rattle.updater.specs.FileReads.{IsRead, IsUnread, Among}
 use Rattle.run_promise.specs.Files.{IsQueries}
 use Rattle.run_promise.specs.Progress.{past}
 use Rattle.run_promise.specs.World.{world}
-use Rattle.updater.proofs.InitRuns.{never_untold}
-use Rattle.updater.proofs.NoStoreFaults.{call_never, unread_never}
 use Rattle.updater.proofs.Asked.{asked_more, asked_none}
 use Rattle.updater.proofs.StoreRuns.{first_read, first_unread, held_certain, if_there, look_done, look_ends, look_refused, look_short}
 use Rattle.updater.proofs.StoreRuns.{not_yet, outdated_there, same_style}
 use Rattle.updater.proofs.StoreDeeds.{shows_here, refused_so}
-use Rattle.updater.proofs.SoundRuns.{look_goes, look_stops, told_ends, unread_ends}
+use Rattle.updater.proofs.Keeping.{keeps_look, keeps_told, keeps_unlooked, keeps_unread}
 use Rattle.updater.proofs.commands.query.query_store.Goals as goal
 
 pub returns-then-old-clause-goes_on : goal.returns-then-old-clause-goes_on
@@ -134,10 +132,7 @@ returns-in-Err-clause-works g c =
     let files = c.args.files in
     let one = c.requires.fits.1 in
     record {
-      keeps = record {
-        stays = record { same_disk = refl; same_limits = refl };
-        formatted = unread_never _ _ _ _ _ c.in-Err.ensures.reads.err;
-      };
+      keeps = keeps_unread _ _ c.in-Err.fault _ _ c.args.store.now c.in-Err.ensures.reads.err;
       asked =
           asked_more g.I.Inputs.reads laws.reads_then
           (Among files.first files.count) c.args.inputs.now c.args.inputs.now c.read_queries_file-read.new.inputs files.first
@@ -151,10 +146,8 @@ returns-in-Err-load_tables-clause-works g c =
     let files = c.args.files in
     let one = c.requires.fits.1 in
     rw c.in_flow.ensures.fault (record {
-      keeps = record {
-        stays = c.load_tables.ensures.stays.over;
-        formatted = call_never c.in-Err-load_tables.fault c.in-Err-load_tables.ensures.stays.alone;
-      };
+      keeps = keeps_unlooked c.args.store.now c.load_tables.new.self c.in-Err-load_tables.fault c.load_tables.ensures.stays.over
+          c.in-Err-load_tables.ensures.stays.alone c.in-Err-load_tables.ensures.sound;
       asked =
           asked_more g.I.Inputs.reads laws.reads_then
           (Among files.first files.count) c.args.inputs.now c.args.inputs.now c.read_queries_file-read.new.inputs files.first
@@ -168,10 +161,8 @@ returns-in-None-style-clause-works g c =
     let files = c.args.files in
     let one = c.requires.fits.1 in
     record {
-      keeps = record {
-        stays = c.load_tables.ensures.stays.over;
-        formatted = λ is. absurd (cc);
-      };
+      keeps = keeps_unimported c.args.store.now c.load_tables.new.self
+          (keeps_look c.args.store.now c.load_tables.new.self c.load_tables.ensures.stays.over c.in-Ok-load_tables.ensures.sound);
       asked =
           asked_more g.I.Inputs.reads laws.reads_then
           (Among files.first files.count) c.args.inputs.now c.args.inputs.now c.read_queries_file-read.new.inputs files.first
@@ -185,10 +176,9 @@ returns-in-Ok-text-clause-works g c =
     let files = c.args.files in
     let one = c.requires.fits.1 in
     record {
-      keeps = record {
-        stays = c.load_tables.ensures.stays.over;
-        formatted = λ is. never_untold c.tell.result _ c.tell.ensures.alone is;
-      };
+      keeps = keeps_told c.args.store.now c.load_tables.new.self
+          (keeps_look c.args.store.now c.load_tables.new.self c.load_tables.ensures.stays.over c.in-Ok-load_tables.ensures.sound)
+          c.tell.result c.tell.ensures.alone;
       asked =
           asked_more g.I.Inputs.reads laws.reads_then
           (Among files.first files.count) c.args.inputs.now c.args.inputs.now c.read_queries_file-read.new.inputs files.first
@@ -202,27 +192,11 @@ returns-clause-works g c =
     let files = c.args.files in
     let one = c.requires.fits.1 in
     record {
-      keeps = record {
-        stays = c.load_tables.ensures.stays.over;
-        formatted = λ is. absurd (cc);
-      };
+      keeps = keeps_short c.args.store.now c.load_tables.new.self
+          (keeps_look c.args.store.now c.load_tables.new.self c.load_tables.ensures.stays.over c.in-Ok-load_tables.ensures.sound);
       asked =
           asked_more g.I.Inputs.reads laws.reads_then
           (Among files.first files.count) c.args.inputs.now c.args.inputs.now c.read_queries_file-read.new.inputs files.first
           (asked_none g.I.Inputs.reads (Among files.first files.count) c.args.inputs.now (laws.reads_none c.args.inputs.now))
           c.read_queries_file-read.ensures.reads.asked (omega arith, omega (arith, one));
     }
-
-pub returns-in-Err-clause-sound : goal.returns-in-Err-clause-sound
-returns-in-Err-clause-sound g c = λ opened.
-    unread_ends _ _ c.in-Err.fault _ _ (handle_of c.args.store.now) c.in-Err.ensures.reads.err
-
-pub returns-in-Err-load_tables-clause-sound : goal.returns-in-Err-load_tables-clause-sound
-returns-in-Err-load_tables-clause-sound g c = rw c.in_flow.ensures.fault (λ opened.
-    look_stops c.in-Err-load_tables.fault (handle_of c.args.store.now) opened (handle_of c.load_tables.new.self)
-    (handle_of c.load_tables.new.self) c.in-Err-load_tables.ensures.sound)
-
-pub returns-in-Ok-text-clause-sound : goal.returns-in-Ok-text-clause-sound
-returns-in-Ok-text-clause-sound g c = λ opened.
-    told_ends c.tell.result (handle_of c.load_tables.new.self) c.tell.ensures.alone
-    (look_goes (handle_of c.args.store.now) (handle_of c.load_tables.new.self) c.in-Ok-load_tables.ensures.sound opened)

@@ -9,6 +9,7 @@ use Rattle.updater.proofs.Asked.{asked_among, asked_more, asked_none, asked_then
 use Rattle.updater.proofs.FillRuns.{stops_appending, tells_whole}
 use Rattle.updater.proofs.OptionLaws.{default_power}
 use Rattle.updater.proofs.StoreRuns.{if_made, never_blank}
+use Rattle.updater.proofs.Keeping.{keeps_then}
 use Rattle.updater.proofs.commands.replay.fill_store.Goals as goal
 
 pub returns-then-imported-clause-goes_on : goal.returns-then-imported-clause-goes_on
@@ -33,10 +34,7 @@ returns-in-Err-clause-works g c =
     let laws = g.met.I.Inputs g.world.𝓛 g.world.𝓜 g.world.𝓡 ((λ s x. x), (λ x. x), (λ x. x), λ x. x) in
     let among = Among c.args.first (c.args.changes + 1) in
     record {
-      keeps = record {
-        stays = c.import_file.ensures.works.keeps.stays;
-        formatted = c.in-Err.ensures.works.keeps.formatted;
-      };
+      keeps = c.in-Err.ensures.works.keeps;
       asked =
           asked_more g.I.Inputs.reads laws.reads_then among c.args.inputs.now c.args.inputs.now c.import_file.new.inputs c.args.first
           (asked_none g.I.Inputs.reads among c.args.inputs.now (laws.reads_none c.args.inputs.now)) c.import_file.ensures.works.asked
@@ -61,13 +59,8 @@ returns-in-Err-append_files-clause-works g c =
     let laws = g.met.I.Inputs g.world.𝓛 g.world.𝓜 g.world.𝓡 ((λ s x. x), (λ x. x), (λ x. x), λ x. x) in
     let among = Among c.args.first (c.args.changes + 1) in
     record {
-      keeps = record {
-        stays = record {
-          same_disk = c.append_files.ensures.works.keeps.stays.same_disk ∙ c.import_file.ensures.works.keeps.stays.same_disk;
-          same_limits = c.append_files.ensures.works.keeps.stays.same_limits ∙ c.import_file.ensures.works.keeps.stays.same_limits;
-        };
-        formatted = c.in-Err-append_files.ensures.works.keeps.formatted;
-      };
+      keeps = keeps_then c.args.store.now c.import_file.new.store _ c.append_files.new.store c.in-Ok.ensures.works.keeps
+          c.in-Err-append_files.ensures.works.keeps;
       asked =
           asked_then g.I.Inputs.reads laws.reads_then among c.args.inputs.now c.import_file.new.inputs c.append_files.new.inputs
           (asked_more g.I.Inputs.reads laws.reads_then among c.args.inputs.now c.args.inputs.now c.import_file.new.inputs c.args.first
@@ -100,15 +93,9 @@ returns-clause-works g c =
     let laws = g.met.I.Inputs g.world.𝓛 g.world.𝓜 g.world.𝓡 ((λ s x. x), (λ x. x), (λ x. x), λ x. x) in
     let among = Among c.args.first (c.args.changes + 1) in
     record {
-      keeps = record {
-        stays = record {
-          same_disk = c.tell_whole.ensures.keeps.stays.same_disk ∙ c.append_files.ensures.works.keeps.stays.same_disk
-              ∙ c.import_file.ensures.works.keeps.stays.same_disk;
-          same_limits = c.tell_whole.ensures.keeps.stays.same_limits ∙ c.append_files.ensures.works.keeps.stays.same_limits
-              ∙ c.import_file.ensures.works.keeps.stays.same_limits;
-        };
-        formatted = c.tell_whole.ensures.keeps.formatted;
-      };
+      keeps = keeps_then c.args.store.now c.import_file.new.store _ c.tell_whole.new.store c.in-Ok.ensures.works.keeps
+          (keeps_then c.import_file.new.store c.append_files.new.store _ c.tell_whole.new.store
+          c.in-Ok-append_files.ensures.works.keeps c.tell_whole.ensures.keeps);
       asked =
           asked_then g.I.Inputs.reads laws.reads_then among c.args.inputs.now c.import_file.new.inputs c.append_files.new.inputs
           (asked_more g.I.Inputs.reads laws.reads_then among c.args.inputs.now c.args.inputs.now c.import_file.new.inputs c.args.first

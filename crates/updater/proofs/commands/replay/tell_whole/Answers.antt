@@ -6,11 +6,10 @@ use Rattle.style_read.specs.Style.{StyleOf}
 use Rattle.update_flow.specs.Updater.{handle_of}
 use Rattle.run_promise.specs.Course.{ends, writes}
 use Rattle.run_promise.specs.Courses.{IsWholeText, tables_text}
-use Rattle.updater.proofs.InitRuns.{never_untold}
-use Rattle.updater.proofs.NoStoreFaults.{call_never}
 use Rattle.updater.proofs.FillRuns.{has_style}
 use Rattle.updater.proofs.StoreRuns.{held_certain, look_done, look_ends, look_refused, look_short, same_style}
 use Rattle.updater.proofs.StoreDeeds.{refused_so}
+use Rattle.updater.proofs.Keeping.{keeps_look, keeps_short, keeps_then, keeps_told, keeps_unimported, keeps_unlooked}
 use Rattle.updater.proofs.commands.replay.tell_whole.Goals as goal
 
 pub returns-in-Err-clause-goes_on : goal.returns-in-Err-clause-goes_on
@@ -31,14 +30,11 @@ returns-in-Err-due-clause-goes_on g c = rw c.in_flow-in-Err-due.ensures.fault (�
     (writes (IsWholeText c.args.least held) ends))
 
 pub returns-in-Err-due-clause-keeps : goal.returns-in-Err-due-clause-keeps
-returns-in-Err-due-clause-keeps g c =
-    rw c.in_flow-in-Err-due.ensures.fault (record {
-      stays = record {
-        same_disk = c.due.ensures.stays.over.same_disk ∙ c.load_tables.ensures.stays.over.same_disk;
-        same_limits = c.due.ensures.stays.over.same_limits ∙ c.load_tables.ensures.stays.over.same_limits;
-      };
-      formatted = call_never c.in-Err-due.fault c.in-Err-due.ensures.stays.alone;
-    })
+returns-in-Err-due-clause-keeps g c = rw c.in_flow-in-Err-due.ensures.fault
+    (keeps_then c.args.store.now c.load_tables.new.self _ c.due.new.self
+    (keeps_look c.args.store.now c.load_tables.new.self c.load_tables.ensures.stays.over c.in-Ok.ensures.sound)
+    (keeps_unlooked c.load_tables.new.self c.due.new.self c.in-Err-due.fault c.due.ensures.stays.over c.in-Err-due.ensures.stays.alone
+    c.in-Err-due.ensures.sound))
 
 pub returns-in-None-clause-goes_on : goal.returns-in-None-clause-goes_on
 returns-in-None-clause-goes_on g c = λ old files start done held next head.
@@ -81,13 +77,11 @@ returns-in-Ok-text-clause-goes_on g c = λ old files start done held next head.
 
 pub returns-in-Ok-text-clause-keeps : goal.returns-in-Ok-text-clause-keeps
 returns-in-Ok-text-clause-keeps g c =
-    record {
-      stays = record {
-        same_disk = c.due.ensures.stays.over.same_disk ∙ c.load_tables.ensures.stays.over.same_disk;
-        same_limits = c.due.ensures.stays.over.same_limits ∙ c.load_tables.ensures.stays.over.same_limits;
-      };
-      formatted = λ is. never_untold c.tell.result _ c.tell.ensures.alone is;
-    }
+    keeps_told c.args.store.now c.due.new.self
+    (keeps_then c.args.store.now c.load_tables.new.self _ c.due.new.self
+    (keeps_look c.args.store.now c.load_tables.new.self c.load_tables.ensures.stays.over c.in-Ok.ensures.sound)
+    (keeps_look c.load_tables.new.self c.due.new.self c.due.ensures.stays.over c.in-Ok-due.ensures.sound))
+    c.tell.result c.tell.ensures.alone
 
 pub returns-clause-goes_on : goal.returns-clause-goes_on
 returns-clause-goes_on g c = λ old files start done held next head.
@@ -102,3 +96,22 @@ returns-clause-goes_on g c = λ old files start done held next head.
     c.in-Ok-due.ensures.stays.cause in
     look_short start done held next old files (handle_of c.load_tables.new.self) (handle_of c.due.new.self) output first
     (IsWholeText c.args.least held) ends sure
+
+pub returns-in-Err-clause-keeps : goal.returns-in-Err-clause-keeps
+returns-in-Err-clause-keeps g c = rw c.in_flow.ensures.fault
+    (keeps_unlooked c.args.store.now c.load_tables.new.self c.in-Err.fault c.load_tables.ensures.stays.over
+    c.in-Err.ensures.stays.alone c.in-Err.ensures.sound)
+
+pub returns-in-None-clause-keeps : goal.returns-in-None-clause-keeps
+returns-in-None-clause-keeps g c =
+    keeps_unimported c.args.store.now c.due.new.self
+    (keeps_then c.args.store.now c.load_tables.new.self _ c.due.new.self
+    (keeps_look c.args.store.now c.load_tables.new.self c.load_tables.ensures.stays.over c.in-Ok.ensures.sound)
+    (keeps_look c.load_tables.new.self c.due.new.self c.due.ensures.stays.over c.in-Ok-due.ensures.sound))
+
+pub returns-clause-keeps : goal.returns-clause-keeps
+returns-clause-keeps g c =
+    keeps_short c.args.store.now c.due.new.self
+    (keeps_then c.args.store.now c.load_tables.new.self _ c.due.new.self
+    (keeps_look c.args.store.now c.load_tables.new.self c.load_tables.ensures.stays.over c.in-Ok.ensures.sound)
+    (keeps_look c.load_tables.new.self c.due.new.self c.due.ensures.stays.over c.in-Ok-due.ensures.sound))

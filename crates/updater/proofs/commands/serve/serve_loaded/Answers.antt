@@ -53,5 +53,5 @@ returns-in-Ok-publish_first-clause-goes_on g c = λ old start done held head loa
     (λ (certain : IsCertain done.store). shown_first c.in-Ok.style front held none changes same
     (ap (λ (own : FrontOf). own.first) is ∙ loaded certain)))
 
-pub returns-in-Ok-publish_first-clause-sound : goal.returns-in-Ok-publish_first-clause-sound
-returns-in-Ok-publish_first-clause-sound g c = c.serve_shown-done.ensures.sound
+pub returns-in-Ok-publish_first-clause-works : goal.returns-in-Ok-publish_first-clause-works
+returns-in-Ok-publish_first-clause-works g c = c.serve_shown-done.ensures.works

@@ -12,13 +12,12 @@ use Rattle.run_promise.specs.Files.{IsBounds, IsQueries}
 use Rattle.updater.specs.Heads.{IsHead}
 use Rattle.run_promise.specs.Progress.{past}
 use Rattle.run_promise.specs.World.{world}
-use Rattle.updater.proofs.NoStoreFaults.{call_never, unread_never}
 use Rattle.updater.proofs.Asked.{asked_among, asked_more, asked_none, asked_then}
 use Rattle.updater.proofs.StoreRuns.{first_read, first_unread, held_certain, if_there, look_done, look_refused, not_yet, outdated_there}
 use Rattle.updater.proofs.StoreRuns.{same_style}
 use Rattle.updater.proofs.VersionRuns.{goes_back}
 use Rattle.updater.proofs.StoreDeeds.{refused_so}
-use Rattle.updater.proofs.SoundRuns.{look_goes, look_stops, unread_ends}
+use Rattle.updater.proofs.Keeping.{keeps_look, keeps_then, keeps_unlooked, keeps_unread}
 use Rattle.updater.proofs.commands.serve.serve_store.Goals as goal
 
 pub returns-then-old-clause-goes_on : goal.returns-then-old-clause-goes_on
@@ -51,10 +50,7 @@ returns-in-Err-clause-works g c =
     let files = c.args.files in
     let some = c.requires.fits.0.fit.some in
     record {
-      keeps = record {
-        stays = record { same_disk = refl; same_limits = refl };
-        formatted = unread_never _ _ _ _ _ c.in-Err.ensures.reads.err;
-      };
+      keeps = keeps_unread _ _ c.in-Err.fault _ _ c.args.store.now c.in-Err.ensures.reads.err;
       asked =
           asked_more g.I.Inputs.reads laws.reads_then
           (Among files.first files.count) c.args.inputs.now c.args.inputs.now c.read_bounds_file.new.inputs files.first
@@ -171,10 +167,7 @@ returns-in-Err-read-clause-works g c =
     let two = c.requires.fits.0.least in
     let among = Among files.first files.count in
     record {
-      keeps = record {
-        stays = record { same_disk = refl; same_limits = refl };
-        formatted = unread_never _ _ _ _ _ c.in-Err-read.ensures.reads.err;
-      };
+      keeps = keeps_unread _ _ c.in-Err-read.fault _ _ c.args.store.now c.in-Err-read.ensures.reads.err;
       asked =
           asked_more g.I.Inputs.reads laws.reads_then among c.args.inputs.now c.read_bounds_file.new.inputs
           c.read_queries_file-read.new.inputs
@@ -192,10 +185,8 @@ returns-in-Err-load_tables-clause-works g c =
     let two = c.requires.fits.0.least in
     let among = Among files.first files.count in
     rw c.in_flow.ensures.fault (record {
-      keeps = record {
-        stays = c.load_tables.ensures.stays.over;
-        formatted = call_never c.in-Err-load_tables.fault c.in-Err-load_tables.ensures.stays.alone;
-      };
+      keeps = keeps_unlooked c.args.store.now c.load_tables.new.self c.in-Err-load_tables.fault c.load_tables.ensures.stays.over
+          c.in-Err-load_tables.ensures.stays.alone c.in-Err-load_tables.ensures.sound;
       asked =
           asked_more g.I.Inputs.reads laws.reads_then among c.args.inputs.now c.read_bounds_file.new.inputs
           c.read_queries_file-read.new.inputs
@@ -213,13 +204,9 @@ returns-clause-works g c =
     let two = c.requires.fits.0.least in
     let among = Among files.first files.count in
     record {
-      keeps = record {
-        stays = record {
-          same_disk = c.serve_loaded.ensures.works.keeps.stays.same_disk ∙ c.load_tables.ensures.stays.over.same_disk;
-          same_limits = c.serve_loaded.ensures.works.keeps.stays.same_limits ∙ c.load_tables.ensures.stays.over.same_limits;
-        };
-        formatted = c.serve_loaded.ensures.works.keeps.formatted;
-      };
+      keeps = keeps_then c.args.store.now c.load_tables.new.self _ c.serve_loaded.new.store
+          (keeps_look c.args.store.now c.load_tables.new.self c.load_tables.ensures.stays.over c.in-Ok-load_tables.ensures.sound)
+          c.serve_loaded.ensures.works.keeps;
       asked =
           asked_then g.I.Inputs.reads laws.reads_then among c.args.inputs.now c.read_queries_file-read.new.inputs c.serve_loaded.new.inputs
           (asked_more g.I.Inputs.reads laws.reads_then among c.args.inputs.now c.read_bounds_file.new.inputs
@@ -243,21 +230,3 @@ overflow_add-changes g c =
 
 pub overflow_sub-changes : goal.overflow_sub-changes
 overflow_sub-changes g c = let two = c.requires.fits.0.least in omega (arith, two)
-
-pub returns-in-Err-clause-sound : goal.returns-in-Err-clause-sound
-returns-in-Err-clause-sound g c = λ opened.
-    unread_ends _ _ c.in-Err.fault _ _ (handle_of c.args.store.now) c.in-Err.ensures.reads.err
-
-pub returns-in-Err-read-clause-sound : goal.returns-in-Err-read-clause-sound
-returns-in-Err-read-clause-sound g c = λ opened.
-    unread_ends _ _ c.in-Err-read.fault _ _ (handle_of c.args.store.now) c.in-Err-read.ensures.reads.err
-
-pub returns-in-Err-load_tables-clause-sound : goal.returns-in-Err-load_tables-clause-sound
-returns-in-Err-load_tables-clause-sound g c = rw c.in_flow.ensures.fault (λ opened.
-    look_stops c.in-Err-load_tables.fault (handle_of c.args.store.now) opened (handle_of c.load_tables.new.self)
-    (handle_of c.load_tables.new.self) c.in-Err-load_tables.ensures.sound)
-
-pub returns-clause-sound : goal.returns-clause-sound
-returns-clause-sound g c = λ opened.
-    c.serve_loaded.ensures.sound
-    (look_goes (handle_of c.args.store.now) (handle_of c.load_tables.new.self) c.in-Ok-load_tables.ensures.sound opened)

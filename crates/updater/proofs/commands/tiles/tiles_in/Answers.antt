@@ -9,8 +9,8 @@ use Rattle.updater.proofs.HeadLaws.{ends_here}
 use Rattle.updater.proofs.StoreRuns.{clear_done, clear_refused, held_certain, if_there, look_done, look_refused, look_short, look_told}
 use Rattle.updater.proofs.StoreRuns.{look_untold, not_yet, outdated_there}
 use Rattle.updater.proofs.StoreDeeds.{refused_so}
-use Rattle.updater.proofs.SoundRuns.{ends_well, look_goes, look_stops, step_goes, step_stops, told_ends}
 use Rattle.update_flow.specs.State.{Clear}
+use Rattle.updater.proofs.Keeping.{keeps_look, keeps_short, keeps_step, keeps_then, keeps_told, keeps_unlooked, keeps_unstepped}
 use Rattle.updater.proofs.commands.tiles.tiles_in.Goals as goal
 
 pub returns-then-old-clause-goes_on : goal.returns-then-old-clause-goes_on
@@ -139,28 +139,33 @@ returns-clause-goes_on g c = rw c.in_flow-in-Err-clear_due.ensures.fault (rw c.i
     (λ head. clear_refused start (plus text done) held 0 old files (handle_of c.due.new.self) (handle_of c.clear_due.new.self) new head
     c.in-Err-clear_due.fault c.in-Err-clear_due.ensures.takes (refused_so c.in-Err-clear_due.ensures.stays)))))
 
-pub returns-in-Err-clause-sound : goal.returns-in-Err-clause-sound
-returns-in-Err-clause-sound g c = rw c.in_flow.ensures.fault (λ opened.
-    look_stops c.in-Err.fault (handle_of c.args.store.now) opened (handle_of c.due.new.self)
-    (handle_of c.due.new.self) c.in-Err.ensures.sound)
+pub returns-in-Err-clause-keeps : goal.returns-in-Err-clause-keeps
+returns-in-Err-clause-keeps g c = rw c.in_flow.ensures.fault
+    (keeps_unlooked c.args.store.now c.due.new.self c.in-Err.fault c.due.ensures.stays.over c.in-Err.ensures.stays.alone
+    c.in-Err.ensures.sound)
 
-pub returns-in-Err-tell_tiles-clause-sound : goal.returns-in-Err-tell_tiles-clause-sound
-returns-in-Err-tell_tiles-clause-sound g c = λ opened.
-    told_ends (Err c.in-Err-tell_tiles.fault) (handle_of c.due.new.self) c.in-Err-tell_tiles.ensures.alone
-    (look_goes (handle_of c.args.store.now) (handle_of c.due.new.self) c.in-Ok.ensures.sound opened)
+pub returns-in-Err-of-clause-keeps : goal.returns-in-Err-of-clause-keeps
+returns-in-Err-of-clause-keeps g c =
+    keeps_short c.args.store.now c.due.new.self (keeps_look c.args.store.now c.due.new.self c.due.ensures.stays.over c.in-Ok.ensures.sound)
 
-pub returns-then-not-clear-clause-sound : goal.returns-then-not-clear-clause-sound
-returns-then-not-clear-clause-sound g c = λ opened.
-    ends_well (handle_of c.due.new.self) (look_goes (handle_of c.args.store.now) (handle_of c.due.new.self) c.in-Ok.ensures.sound opened)
+pub returns-in-Err-tell_tiles-clause-keeps : goal.returns-in-Err-tell_tiles-clause-keeps
+returns-in-Err-tell_tiles-clause-keeps g c =
+    keeps_told c.args.store.now c.due.new.self
+    (keeps_look c.args.store.now c.due.new.self c.due.ensures.stays.over c.in-Ok.ensures.sound)
+    (Err c.in-Err-tell_tiles.fault) c.in-Err-tell_tiles.ensures.alone
 
-pub returns-in-Ok-clear_due-clause-sound : goal.returns-in-Ok-clear_due-clause-sound
-returns-in-Ok-clear_due-clause-sound g c = λ opened.
-    ends_well (handle_of c.clear_due.new.self)
-    (step_goes Clear (handle_of c.due.new.self) (handle_of c.clear_due.new.self) c.in-Ok-clear_due.ensures.sound
-    (look_goes (handle_of c.args.store.now) (handle_of c.due.new.self) c.in-Ok.ensures.sound opened))
+pub returns-then-not-clear-clause-keeps : goal.returns-then-not-clear-clause-keeps
+returns-then-not-clear-clause-keeps g c = keeps_look c.args.store.now c.due.new.self c.due.ensures.stays.over c.in-Ok.ensures.sound
 
-pub returns-clause-sound : goal.returns-clause-sound
-returns-clause-sound g c = rw c.in_flow-in-Err-clear_due.ensures.fault (λ opened.
-    step_stops c.in-Err-clear_due.fault (handle_of c.due.new.self)
-    (look_goes (handle_of c.args.store.now) (handle_of c.due.new.self) c.in-Ok.ensures.sound opened)
-    (handle_of c.clear_due.new.self) Clear (handle_of c.clear_due.new.self) c.in-Err-clear_due.ensures.sound)
+pub returns-in-Ok-clear_due-clause-keeps : goal.returns-in-Ok-clear_due-clause-keeps
+returns-in-Ok-clear_due-clause-keeps g c =
+    keeps_then c.args.store.now c.due.new.self _ c.clear_due.new.self
+    (keeps_look c.args.store.now c.due.new.self c.due.ensures.stays.over c.in-Ok.ensures.sound)
+    (keeps_step c.due.new.self c.clear_due.new.self Clear c.clear_due.ensures.stays.over c.in-Ok-clear_due.ensures.sound)
+
+pub returns-clause-keeps : goal.returns-clause-keeps
+returns-clause-keeps g c = rw c.in_flow-in-Err-clear_due.ensures.fault
+    (keeps_then c.args.store.now c.due.new.self _ c.clear_due.new.self
+    (keeps_look c.args.store.now c.due.new.self c.due.ensures.stays.over c.in-Ok.ensures.sound)
+    (keeps_unstepped c.due.new.self c.clear_due.new.self c.in-Err-clear_due.fault Clear c.clear_due.ensures.stays.over
+    c.in-Err-clear_due.ensures.stays.alone c.in-Err-clear_due.ensures.sound))
