@@ -2,6 +2,7 @@ pub mod Asked
 pub mod FollowOpens
 pub mod ExportRuns
 pub mod FollowBlocks
+pub mod FollowKeeps
 pub mod FollowFiles
 pub mod BaseLaws
 pub mod FollowRuns

@@ -23,7 +23,7 @@ use Rattle.updater.proofs.CheckRuns.{bad_says}
 
 -- Which calls of the store tell no damaged page.
 
-look_bad : (state : State) (page : ℕ) → MayLook state (Some (flow.Store (stores.BadStore page))) → ⊥
+pub look_bad : (state : State) (page : ℕ) → MayLook state (Some (flow.Store (stores.BadStore page))) → ⊥
 look_bad formatted page may = absurd (cc (may))
 look_bad (imported held) page may = absurd (cc (may))
 look_bad (outdated held) page may = absurd (cc (may))

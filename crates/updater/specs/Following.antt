@@ -1,6 +1,7 @@
 -- How a store follows another one through the files of its feed: a block is taken and told, and so is file after file.
 use Rattle.std.specs.Prelude.{◌≡◌, ◌≢◌, ◌⊎◌, ℕ, ◌+◌, suc, Bool, true, false, List, [], ◌∷◌, Option, None, Some, Result, Ok, Err}
 use Rattle.osm_base.specs.bounds.Limits.{standard}
+use Rattle.object_fold.specs.Reading.{ReadsNoOther}
 use Rattle.outside.specs.Bytes.{BothKnown, IfTold, IsTold}
 use Rattle.outside.specs.Inputs.{FilesView}
 use Rattle.outside.specs.Sink.{SinkView}
@@ -11,7 +12,7 @@ use Rattle.delta_feed.specs.declared.block.Block.{Block}
 use Rattle.delta_feed.specs.declared.block.Block.TheVariants as blocks
 use Rattle.delta_feed.specs.declared.block.Stage.TheVariants as stages
 use Rattle.delta_feed.specs.declared.reader.FeedReader.{FeedReader}
-use Rattle.update_flow.specs.Follower.{StaysOver}
+use Rattle.update_flow.specs.Follower.{StaysOver, handle_of}
 use Rattle.update_flow.specs.Handle.{Handle, IsOpen, view_of}
 use Rattle.update_flow.specs.State.{State, Follow, after, formatted, following, style_in}
 use Rattle.update_flow.specs.declared.fault.FollowFault.{FollowFault}
@@ -152,17 +153,6 @@ pub record IsFollowing (first count : ℕ) (start done : Progress) (state : Stat
   pub leads : (ending : Ending) → Comes old (follows_files file left now) further ending
       → Comes old (follows_files first count state) done ending
 
--- the store stays open over its disk, under its limits, and no fault says that the disk holds no store
-pub record KeepsFollower {D : Type 0} {g : Ghosts D} (fault : Option Fault) (old new : Follower D g) : Type 0 where
-  pub stays : StaysOver old new
-  pub formatted : fault ≢ Some NotFormatted
-
--- so it is, and no file but such is asked for
-pub record Follows {D : Type 0} {g : Ghosts D} (asks : List ℕ → Type 0) (named : ℕ → Type 0) (fault : Option Fault)
-    (old new : Follower D g) : Type 0 where
-  pub keeps : KeepsFollower fault old new
-  pub asked : AsksOnly asks named
-
 -- a store that stands for a state
 abbrev pub Stands : Handle → Type 0
 Stands store = (state : State) × IsOpen state store
@@ -174,3 +164,21 @@ pub record EndsStanding (fault : Option Fault) (store : Handle) : Type 0 where
 
 abbrev pub KeepsStanding : Option Fault → (before after : Handle) → Type 0
 KeepsStanding fault before after = Stands before → EndsStanding fault after
+
+-- the store stays open over its disk, under its limits, and one that stands for a state is kept; no fault says that the disk holds no store
+pub record KeepsFollower {D : Type 0} {g : Ghosts D} (fault : Option Fault) (old new : Follower D g) : Type 0 where
+  pub stays : StaysOver old new
+  pub formatted : fault ≢ Some NotFormatted
+  pub stands : KeepsStanding fault (handle_of old) (handle_of new)
+
+-- so it is, and no file but this one is read, as far as it is
+pub record FollowsOn {D : Type 0} {g : Ghosts D} (asks : List ℕ → Type 0) (file : ℕ) (fault : Option Fault) (left read : FilesView)
+    (old new : Follower D g) : Type 0 where
+  pub keeps : KeepsFollower fault old new
+  pub read : ReadsNoOther file asks left read
+
+-- so it is, and no file but such is asked for
+pub record Follows {D : Type 0} {g : Ghosts D} (asks : List ℕ → Type 0) (named : ℕ → Type 0) (fault : Option Fault)
+    (old new : Follower D g) : Type 0 where
+  pub keeps : KeepsFollower fault old new
+  pub asked : AsksOnly asks named

@@ -1,6 +1,7 @@
 -- What holds of a command over a store, and of each function below it, whatever it answers.
-use Rattle.std.specs.Prelude.{◌≡◌, ◌≢◌, ℕ, List, Option, None, Some, replicate}
-use Rattle.outside.specs.Disk.{Stays}
+use Rattle.std.specs.Prelude.{◌≡◌, ◌≢◌, ℕ, List, Option, None, Some, length, replicate}
+use Rattle.outside.specs.Bytes.{IfTold}
+use Rattle.outside.specs.Disk.{DiskView, Stays}
 use Rattle.outside.specs.declared.disk.Disk.{Ghosts}
 use Rattle.update_flow.specs.Handle.{Handle}
 use Rattle.update_flow.specs.SoundTurns.{IsSoundlyOpen}
@@ -22,6 +23,11 @@ pub record Does (course : Course) (asks : List ℕ → Type 0) (named : ℕ → 
   pub asked : AsksOnly asks named
   pub unformatted : fault ≡ Some NotFormatted → Stays old.disk new.disk
   pub trusted : IsTrusted old.disk.content fault
+
+-- A command that makes its store leaves a disk as it is that holds any byte, and never says that it holds no store.
+pub record Makes (fault : Option Fault) (old new : DiskView) : Type 0 where
+  pub looked : IfTold old.content (λ bytes. length bytes ≢ 0 → Stays old new)
+  pub formatted : fault ≢ Some NotFormatted
 
 -- a command that names no file
 abbrev pub NoFile : ℕ → Type 0

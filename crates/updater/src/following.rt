@@ -1,7 +1,7 @@
 //! A store follows another one through the files of its feed, block by block: each is read, taken in one commit, and told.
 ghost use Rattle.std.specs.Prelude.{◌≡◌, ◌<◌, ◌≤◌, ◌+◌, ℕ, Ok, true, OnOk, replicate};
 ghost use Rattle.std.specs.Result.{result_err};
-ghost use Rattle.object_fold.specs.Reading.{IsReadAlone, ReadsNoOther};
+ghost use Rattle.object_fold.specs.Reading.{IsReadAlone};
 ghost use Rattle.outside.specs.Inputs.{FilesView};
 ghost use Rattle.delta_feed.specs.Sound.{IsSound as IsSoundBlock};
 ghost use Rattle.update_flow.specs.Handle.{style_of, view_of};
@@ -12,7 +12,7 @@ ghost use Rattle.run_promise.specs.CommandOf.{FitFrom};
 ghost use Rattle.run_promise.specs.Progress.{Progress};
 ghost use Rattle.run_promise.specs.World.{Before, world};
 ghost use Rattle.updater.specs.FileReads.{Among};
-ghost use Rattle.updater.specs.Following.{Follows, FollowsFile, IsReadingOn, KeepsFollower, KeepsStanding, MayFollow, TakesBlock, TakesNext, follow_fault};
+ghost use Rattle.updater.specs.Following.{Follows, FollowsFile, FollowsOn, IsReadingOn, KeepsFollower, MayFollow, TakesBlock, TakesNext, follow_fault};
 ghost use Rattle.updater.specs.Heads.{GoesOn, IsHead};
 
 use crate::versions::tell_version;
@@ -46,7 +46,6 @@ fn follow_block<D: Disk, S: Sink>(
         → IsHead start done state file old files (handle_of store.old) (S.view out.old)
         → TakesBlock file block (result_err result) start done state old files read (handle_of store.new) (S.view out.new) }
     ensures keeps { KeepsFollower (result_err result) store.old store.new }
-    ensures stands { KeepsStanding (result_err result) (handle_of store.old) (handle_of store.new) }
 {
     let _taken = match store.apply(block) {
         Ok(taken) => taken,
@@ -73,9 +72,7 @@ fn follow_next<I: Inputs, D: Disk, S: Sink>(
     ensures next { (files : FilesView) (old : Before) (start done : Progress) (state : State) → MayFollow state → IsReadAlone file files (I.view inputs.old)
         → IsHead start done state file old files (handle_of store.old) (S.view out.old)
         → TakesNext file result start done state old files reader.old reader.new (I.view inputs.old) (I.view inputs.new) (handle_of store.new) (S.view out.new) }
-    ensures read { ReadsNoOther file (λ asked. I.reads inputs.old asked inputs.new) (I.view inputs.old) (I.view inputs.new) }
-    ensures keeps { KeepsFollower (result_err result) store.old store.new }
-    ensures stands { KeepsStanding (result_err result) (handle_of store.old) (handle_of store.new) }
+    ensures works { FollowsOn (λ asked. I.reads inputs.old asked inputs.new) file (result_err result) (I.view inputs.old) (I.view inputs.new) store.old store.new }
 {
     let found = match reader.next(alloc, inputs, store.style()) {
         Ok(found) => found,
@@ -103,7 +100,6 @@ fn follow_file<I: Inputs, D: Disk, S: Sink>(
         → FollowsFile file (result_err result) start done state old (I.view inputs.new) (handle_of store.new) (S.view out.new) }
     ensures asked { (count : ℕ) × I.reads inputs.old (replicate count file) inputs.new }
     ensures keeps { KeepsFollower (result_err result) store.old store.new }
-    ensures stands { KeepsStanding (result_err result) (handle_of store.old) (handle_of store.new) }
 {
     let limits = Limits::standard();
     let mut reader = FeedReader::new(alloc, file, &limits);
@@ -130,7 +126,6 @@ pub fn follow_files<I: Inputs, D: Disk, S: Sink>(
         → GoesOn (follows_files files.first files.count state) start done (result_err result) old
         (world (I.view inputs.new) (view_of (handle_of store.new)) (S.view out.new)) }
     ensures works { Follows (λ asked. I.reads inputs.old asked inputs.new) (Among files.first files.count) (result_err result) store.old store.new }
-    ensures stands { KeepsStanding (result_err result) (handle_of store.old) (handle_of store.new) }
 {
     let end = files.first + files.count;
     let mut file = files.first;

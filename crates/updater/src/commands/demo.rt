@@ -1,11 +1,9 @@
 //! `demo N STORE`: a store made and filled with a map out of nothing, and how much it holds.
-ghost use Rattle.std.specs.Prelude.{◌≡◌, ◌≢◌, [], ℕ, Some, length};
+ghost use Rattle.std.specs.Prelude.{◌≡◌, ◌≢◌, [], ℕ, Some};
 ghost use Rattle.std.specs.Option.{option_map};
 ghost use Rattle.std.specs.Result.{result_err};
 ghost use Rattle.demo_map.specs.Demo.{demo_first, demo_input, demo_second};
 ghost use Rattle.demo_map.specs.Style.{DEMO_STYLE, demo_bounds, demo_style};
-ghost use Rattle.outside.specs.Bytes.{IfTold};
-ghost use Rattle.outside.specs.Disk.{Stays};
 ghost use Rattle.outside.specs.Inputs.{FilesView};
 ghost use Rattle.update_flow.specs.Handle.{view_of};
 ghost use Rattle.update_flow.specs.State.{Holding, State, formatted, imported};
@@ -17,7 +15,7 @@ ghost use Rattle.updater.specs.Heads.{GoesOn, IsHead, IsSoFar, Leads};
 ghost use Rattle.run_promise.specs.Making.{reading_alone};
 ghost use Rattle.run_promise.specs.Progress.{Progress, begun, unused};
 ghost use Rattle.run_promise.specs.Runs.{GoesBy};
-ghost use Rattle.updater.specs.Works.{KeepsOpen};
+ghost use Rattle.updater.specs.Works.{KeepsOpen, Makes};
 ghost use Rattle.run_promise.specs.World.{Before, world};
 ghost use Rattle.updater.specs.commands.Demo as demo;
 
@@ -97,8 +95,7 @@ pub fn demo<R: Threads + Sync, I: Inputs, D: Disk, S: Sink, G: Gate>(
     ensures course { GoesBy (demo_course squares.count) (begun unused 0) (result_err result)
         (world (I.view inputs.now) (D.view disk.old) (S.view out.old))
         (world (I.view inputs.now) (D.view disk.new) (S.view out.new)) }
-    ensures looked { IfTold (D.view disk.old).content (λ bytes. length bytes ≢ 0 → Stays (D.view disk.old) (D.view disk.new)) }
-    ensures formatted { result_err result ≢ Some Fault.NotFormatted }
+    ensures makes { Makes (result_err result) (D.view disk.old) (D.view disk.new) }
 {
     if let Err(fault) = wants_empty(disk) {
         return Err(fault);

@@ -1,8 +1,6 @@
 //! `replay STORE STYLE BOUNDS INPUT CHANGE*`: a store made, imported and changed, and all that it holds.
-ghost use Rattle.std.specs.Prelude.{◌≡◌, ◌≢◌, ◌≤◌, ◌+◌, List, ℕ, Ok, Some, length};
+ghost use Rattle.std.specs.Prelude.{◌≡◌, ◌≢◌, ◌≤◌, ◌+◌, List, ℕ, Ok, Some};
 ghost use Rattle.std.specs.Result.{result_err};
-ghost use Rattle.outside.specs.Bytes.{IfTold};
-ghost use Rattle.outside.specs.Disk.{Stays};
 ghost use Rattle.outside.specs.Inputs.{FilesView};
 ghost use Rattle.style_read.specs.Reading.{reading};
 ghost use Rattle.update_flow.specs.Handle.{view_of};
@@ -17,7 +15,7 @@ ghost use Rattle.run_promise.specs.Making.{reading_alone};
 ghost use Rattle.run_promise.specs.Progress.{Progress, begun, unused};
 ghost use Rattle.updater.specs.FileReads.{Among};
 ghost use Rattle.run_promise.specs.Runs.{AsksOnly, GoesBy};
-ghost use Rattle.updater.specs.Works.{KeepsOpen, Works};
+ghost use Rattle.updater.specs.Works.{KeepsOpen, Makes, Works};
 ghost use Rattle.run_promise.specs.World.{Before, world};
 ghost use Rattle.updater.specs.commands.Replay as replay;
 
@@ -77,8 +75,7 @@ pub fn replay<R: Threads + Sync, I: Inputs, D: Disk, S: Sink, G: Gate>(
         (world (I.view inputs.old) (D.view disk.old) (S.view out.old))
         (world (I.view inputs.new) (D.view disk.new) (S.view out.new)) }
     ensures asked { AsksOnly (λ asked. I.reads inputs.old asked inputs.new) (Among files.first files.count) }
-    ensures looked { IfTold (D.view disk.old).content (λ bytes. length bytes ≢ 0 → Stays (D.view disk.old) (D.view disk.new)) }
-    ensures formatted { result_err result ≢ Some Fault.NotFormatted }
+    ensures makes { Makes (result_err result) (D.view disk.old) (D.view disk.new) }
 {
     if let Err(fault) = wants_empty(disk) {
         return Err(fault);

@@ -13,12 +13,9 @@ pub returns-in-Err-clause-keeps : goal.returns-in-Err-clause-keeps
 returns-in-Err-clause-keeps g c = rw c.in_follow.ensures.fault (record {
   stays = c.apply.ensures.stays.over;
   formatted = follow_never c.args.file c.args.block c.args.store.now c.apply.new.self c.in-Err.fault c.in-Err.ensures.stays;
+  stands = stands_refused c.args.file c.args.store.now c.apply.new.self c.args.block c.in-Err.fault c.in-Err.ensures.unbegun
+      c.in-Err.ensures.gap c.in-Err.ensures.takes;
 })
-
-pub returns-in-Err-clause-stands : goal.returns-in-Err-clause-stands
-returns-in-Err-clause-stands g c = rw c.in_follow.ensures.fault
-    (stands_refused c.args.file c.args.store.now c.apply.new.self c.args.block c.in-Err.fault c.in-Err.ensures.unbegun
-    c.in-Err.ensures.gap c.in-Err.ensures.takes)
 
 pub returns-in-Some-clause-block : goal.returns-in-Some-clause-block
 returns-in-Some-clause-block g c = λ files read old start done state may alone head.
@@ -32,13 +29,10 @@ pub returns-in-Some-clause-keeps : goal.returns-in-Some-clause-keeps
 returns-in-Some-clause-keeps g c = record {
   stays = c.apply.ensures.stays.over;
   formatted = told_never c.tell_version.result c.tell_version.ensures.alone;
+  stands = λ opened. told_standing c.tell_version.result (handle_of c.apply.new.self) c.tell_version.ensures.alone
+      (stands_taken c.args.file c.args.store.now c.apply.new.self c.args.block c.in-Ok.taken c.in-Ok.ensures.unbegun c.in-Ok.ensures.gap
+      c.in-Ok.ensures.takes opened);
 }
-
-pub returns-in-Some-clause-stands : goal.returns-in-Some-clause-stands
-returns-in-Some-clause-stands g c = λ opened.
-    told_standing c.tell_version.result (handle_of c.apply.new.self) c.tell_version.ensures.alone
-    (stands_taken c.args.file c.args.store.now c.apply.new.self c.args.block c.in-Ok.taken c.in-Ok.ensures.unbegun c.in-Ok.ensures.gap
-    c.in-Ok.ensures.takes opened)
 
 pub returns-in-None-clause-block : goal.returns-in-None-clause-block
 returns-in-None-clause-block g c = λ files read old start done state may alone head. absurd
@@ -47,7 +41,8 @@ returns-in-None-clause-block g c = λ files read old start done state may alone 
     c.args.block c.in-Ok.taken c.in-Ok.ensures.unbegun c.in-Ok.ensures.gap c.in-Ok.ensures.takes c.in-None.ensures.version)
 
 pub returns-in-None-clause-keeps : goal.returns-in-None-clause-keeps
-returns-in-None-clause-keeps g c = record { stays = c.apply.ensures.stays.over; formatted = λ is. absurd (cc (is)) }
-
-pub returns-in-None-clause-stands : goal.returns-in-None-clause-stands
-returns-in-None-clause-stands g c = λ opened. record { never = λ page is. absurd (cc (is)); stays = λ none. absurd (cc (none)) }
+returns-in-None-clause-keeps g c = record {
+  stays = c.apply.ensures.stays.over;
+  formatted = λ is. absurd (cc (is));
+  stands = λ opened. record { never = λ page is. absurd (cc (is)); stays = λ none. absurd (cc (none)) };
+}

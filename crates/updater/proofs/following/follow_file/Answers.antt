@@ -1,6 +1,7 @@
-use Rattle.std.proofs.Common.{Ok, ap, ◌∙◌, arith, refl}
+use Rattle.std.proofs.Common.{Ok, None, Some, ap, ◌∙◌, arith}
 use Rattle.update_flow.specs.Follower.{handle_of}
 use Rattle.updater.proofs.FollowFiles.{first_within, last_within, lines_within, next_within, read_more, read_none, stops_within}
+use Rattle.updater.proofs.FollowKeeps.{keeps_none, keeps_then}
 use Rattle.updater.proofs.following.follow_file.Goals as goal
 
 pub loop-reader-init : goal.loop-reader-init
@@ -13,8 +14,7 @@ loop-reader-init g c =
         limits = c.new-reader.ensures.limits ∙ c.standard-limits.ensures.numbers;
       };
       read = read_none g.I.Inputs.reads g.I.Inputs.view c.args.file c.args.inputs.now (laws.reads_none c.args.inputs.now);
-      stays = record { same_disk = refl; same_limits = refl };
-      stands = λ opened. opened;
+      keeps = keeps_none c.args.store.now;
       turn = λ old start done state may head.
           first_within c.args.file start done state old (g.I.Inputs.view c.args.inputs.now) may c.new-reader.result
           c.new-reader.ensures.start
@@ -28,12 +28,8 @@ loop-reader-preserved g c =
     record {
       reading = c.in-Ok-true.ensures.reading;
       read = read_more g.I.Inputs.reads g.I.Inputs.view c.args.file laws.reads_then c.args.inputs.now c.loop-reader.inputs
-          c.follow_next.new.inputs own.read c.follow_next.ensures.read;
-      stays = record {
-        same_disk = c.follow_next.ensures.keeps.stays.same_disk ∙ own.stays.same_disk;
-        same_limits = c.follow_next.ensures.keeps.stays.same_limits ∙ own.stays.same_limits;
-      };
-      stands = λ opened. (c.in-Ok-true.ensures.stands (own.stands opened)).stays refl;
+          c.follow_next.new.inputs own.read c.follow_next.ensures.works.read;
+      keeps = keeps_then c.args.store.now c.loop-reader.store None c.follow_next.new.store own.keeps c.in-Ok-true.ensures.works.keeps;
       turn = λ old start done state may head.
           let turn = own.turn old start done state may head in
           next_within c.args.file start done state old (g.I.Inputs.view c.args.inputs.now) c.loop-reader.reader
@@ -56,7 +52,7 @@ returns-in-Ok-false-clause-follows g c = λ old start done state may head.
     let own = c.loop-reader.invariant in
     let turn = own.turn old start done state may head in
     let read = read_more g.I.Inputs.reads g.I.Inputs.view c.args.file laws.reads_then c.args.inputs.now c.loop-reader.inputs
-    c.follow_next.new.inputs own.read c.follow_next.ensures.read in
+    c.follow_next.new.inputs own.read c.follow_next.ensures.works.read in
     last_within c.args.file start done state old (g.I.Inputs.view c.args.inputs.now) c.loop-reader.reader
     (g.I.Inputs.view c.loop-reader.inputs) (handle_of c.loop-reader.store) (g.S.Sink.view c.loop-reader.out) turn
     c.follow_next.new.reader (g.I.Inputs.view c.follow_next.new.inputs) (handle_of c.follow_next.new.store)
@@ -67,21 +63,12 @@ pub returns-in-Ok-false-clause-asked : goal.returns-in-Ok-false-clause-asked
 returns-in-Ok-false-clause-asked g c =
     let laws = g.met.I.Inputs g.world.𝓛 g.world.𝓜 g.world.𝓡 ((λ s x. x), (λ x. x), (λ x. x), λ x. x) in
     (read_more g.I.Inputs.reads g.I.Inputs.view c.args.file laws.reads_then c.args.inputs.now c.loop-reader.inputs
-    c.follow_next.new.inputs c.loop-reader.invariant.read c.follow_next.ensures.read).asked
+    c.follow_next.new.inputs c.loop-reader.invariant.read c.follow_next.ensures.works.read).asked
 
 pub returns-in-Ok-false-clause-keeps : goal.returns-in-Ok-false-clause-keeps
 returns-in-Ok-false-clause-keeps g c =
-    let own = c.loop-reader.invariant in
-    record {
-      stays = record {
-        same_disk = c.follow_next.ensures.keeps.stays.same_disk ∙ own.stays.same_disk;
-        same_limits = c.follow_next.ensures.keeps.stays.same_limits ∙ own.stays.same_limits;
-      };
-      formatted = λ is. absurd (cc (is));
-    }
-
-pub returns-in-Ok-false-clause-stands : goal.returns-in-Ok-false-clause-stands
-returns-in-Ok-false-clause-stands g c = λ opened. c.in-Ok-false.ensures.stands (c.loop-reader.invariant.stands opened)
+    keeps_then c.args.store.now c.loop-reader.store None c.follow_next.new.store c.loop-reader.invariant.keeps
+    c.in-Ok-false.ensures.works.keeps
 
 pub returns-in-Err-clause-follows : goal.returns-in-Err-clause-follows
 returns-in-Err-clause-follows g c = λ old start done state may head.
@@ -97,18 +84,9 @@ pub returns-in-Err-clause-asked : goal.returns-in-Err-clause-asked
 returns-in-Err-clause-asked g c =
     let laws = g.met.I.Inputs g.world.𝓛 g.world.𝓜 g.world.𝓡 ((λ s x. x), (λ x. x), (λ x. x), λ x. x) in
     (read_more g.I.Inputs.reads g.I.Inputs.view c.args.file laws.reads_then c.args.inputs.now c.loop-reader.inputs
-    c.follow_next.new.inputs c.loop-reader.invariant.read c.follow_next.ensures.read).asked
+    c.follow_next.new.inputs c.loop-reader.invariant.read c.follow_next.ensures.works.read).asked
 
 pub returns-in-Err-clause-keeps : goal.returns-in-Err-clause-keeps
 returns-in-Err-clause-keeps g c =
-    let own = c.loop-reader.invariant in
-    record {
-      stays = record {
-        same_disk = c.follow_next.ensures.keeps.stays.same_disk ∙ own.stays.same_disk;
-        same_limits = c.follow_next.ensures.keeps.stays.same_limits ∙ own.stays.same_limits;
-      };
-      formatted = c.in-Err.ensures.keeps.formatted;
-    }
-
-pub returns-in-Err-clause-stands : goal.returns-in-Err-clause-stands
-returns-in-Err-clause-stands g c = λ opened. c.in-Err.ensures.stands (c.loop-reader.invariant.stands opened)
+    keeps_then c.args.store.now c.loop-reader.store (Some c.in-Err.fault) c.follow_next.new.store c.loop-reader.invariant.keeps
+    c.in-Err.ensures.works.keeps

@@ -1,8 +1,9 @@
-use Rattle.std.proofs.Common.{◌-◌, ◌+◌, ◌∙◌, arith, refl}
+use Rattle.std.proofs.Common.{◌-◌, ◌+◌, None, Some, arith}
 use Rattle.update_flow.specs.Follower.{handle_of}
 use Rattle.updater.specs.FileReads.{Among}
 use Rattle.updater.proofs.Asked.{asked_more, asked_none}
 use Rattle.updater.proofs.FollowFiles.{ends_in_following, first_following, last_following, next_following}
+use Rattle.updater.proofs.FollowKeeps.{keeps_none, keeps_then}
 use Rattle.updater.proofs.following.follow_files.Goals as goal
 
 pub loop-file-init : goal.loop-file-init
@@ -13,8 +14,7 @@ loop-file-init g c =
       within = omega arith;
       asked = asked_none g.I.Inputs.reads (Among c.args.files.first c.args.files.count) c.args.inputs.now
           (laws.reads_none c.args.inputs.now);
-      stays = record { same_disk = refl; same_limits = refl };
-      stands = λ opened. opened;
+      keeps = keeps_none c.args.store.now;
       turn = λ old start done state may head. first_following c.args.files.first c.args.files.count start done state old may
           (c.args.files.first + c.args.files.count - c.args.files.first) (omega arith)
           (g.I.Inputs.view c.args.inputs.now) (handle_of c.args.store.now) (g.S.Sink.view c.args.out.now) head;
@@ -30,11 +30,8 @@ loop-file-preserved g c =
           (Among c.args.files.first c.args.files.count) c.args.inputs.now c.loop-file.inputs c.follow_file.new.inputs c.loop-file.file
           c.loop-file.invariant.asked c.follow_file.ensures.asked
           (c.loop-file.invariant.least, omega (arith, c.loop-file-test.true));
-      stays = record {
-        same_disk = c.follow_file.ensures.keeps.stays.same_disk ∙ c.loop-file.invariant.stays.same_disk;
-        same_limits = c.follow_file.ensures.keeps.stays.same_limits ∙ c.loop-file.invariant.stays.same_limits;
-      };
-      stands = λ opened. (c.in-Ok.ensures.stands (c.loop-file.invariant.stands opened)).stays refl;
+      keeps = keeps_then c.args.store.now c.loop-file.store None c.follow_file.new.store c.loop-file.invariant.keeps
+          c.in-Ok.ensures.keeps;
       turn = λ old start done state may head.
           next_following c.args.files.first c.args.files.count start done state old c.loop-file.file
           (c.args.files.first + c.args.files.count - c.loop-file.file) (c.args.files.first + c.args.files.count - (c.loop-file.file + 1))
@@ -57,21 +54,13 @@ pub returns-in-Err-clause-works : goal.returns-in-Err-clause-works
 returns-in-Err-clause-works g c =
     let laws = g.met.I.Inputs g.world.𝓛 g.world.𝓜 g.world.𝓡 ((λ s x. x), (λ x. x), (λ x. x), λ x. x) in
     record {
-      keeps = record {
-        stays = record {
-          same_disk = c.follow_file.ensures.keeps.stays.same_disk ∙ c.loop-file.invariant.stays.same_disk;
-          same_limits = c.follow_file.ensures.keeps.stays.same_limits ∙ c.loop-file.invariant.stays.same_limits;
-        };
-        formatted = c.in-Err.ensures.keeps.formatted;
-      };
+      keeps = keeps_then c.args.store.now c.loop-file.store (Some c.in-Err.fault) c.follow_file.new.store c.loop-file.invariant.keeps
+          c.in-Err.ensures.keeps;
       asked = asked_more g.I.Inputs.reads laws.reads_then
           (Among c.args.files.first c.args.files.count) c.args.inputs.now c.loop-file.inputs c.follow_file.new.inputs c.loop-file.file
           c.loop-file.invariant.asked c.follow_file.ensures.asked
           (c.loop-file.invariant.least, omega (arith, c.loop-file-test.true));
     }
-
-pub returns-in-Err-clause-stands : goal.returns-in-Err-clause-stands
-returns-in-Err-clause-stands g c = λ opened. c.in-Err.ensures.stands (c.loop-file.invariant.stands opened)
 
 pub returns-clause-follows : goal.returns-clause-follows
 returns-clause-follows g c = λ old start done state may head.
@@ -81,10 +70,4 @@ returns-clause-follows g c = λ old start done state may head.
     (c.loop-file.invariant.turn old start done state may head)
 
 pub returns-clause-works : goal.returns-clause-works
-returns-clause-works g c = record {
-  keeps = record { stays = c.loop-file.invariant.stays; formatted = λ is. absurd (cc) };
-  asked = c.loop-file.invariant.asked;
-}
-
-pub returns-clause-stands : goal.returns-clause-stands
-returns-clause-stands g c = λ opened. record { never = λ page is. absurd (cc (is)); stays = λ none. c.loop-file.invariant.stands opened }
+returns-clause-works g c = record { keeps = c.loop-file.invariant.keeps; asked = c.loop-file.invariant.asked }

@@ -3,6 +3,7 @@ use Rattle.std.specs.Option.{option_copied}
 use Rattle.update_flow.specs.Follower.{handle_of}
 use Rattle.updater.proofs.FollowFiles.{block_lines, block_told, next_over, not_read_of, read_alone}
 use Rattle.updater.proofs.FollowBlocks.{feed_never, feed_standing}
+use Rattle.updater.proofs.FollowKeeps.{keeps_none}
 use Rattle.updater.proofs.following.follow_next.Goals as goal
 
 -- the next block is not read
@@ -13,18 +14,15 @@ returns-in-Err-clause-next g c = rw c.in_feed.ensures.fault (λ files old start 
     c.args.reader.now c.next.new.self c.requires.reading.limits (option_copied c.style.result) c.style.ensures.style c.in-Err.fault
     c.in-Err.ensures.stopped)
 
-pub returns-in-Err-clause-read : goal.returns-in-Err-clause-read
-returns-in-Err-clause-read g c = read_alone c.args.reader.now.file c.args.file c.requires.reading.own _ _ _ c.next.ensures.read
-
-pub returns-in-Err-clause-keeps : goal.returns-in-Err-clause-keeps
-returns-in-Err-clause-keeps g c = rw c.in_feed.ensures.fault (record {
-  stays = record { same_disk = refl; same_limits = refl };
-  formatted = feed_never c.args.file c.in-Err.fault;
+pub returns-in-Err-clause-works : goal.returns-in-Err-clause-works
+returns-in-Err-clause-works g c = rw c.in_feed.ensures.fault (record {
+  keeps = record {
+    stays = record { same_disk = refl; same_limits = refl };
+    formatted = feed_never c.args.file c.in-Err.fault;
+    stands = λ opened. feed_standing c.args.file c.in-Err.fault (handle_of c.args.store.now);
+  };
+  read = read_alone c.args.reader.now.file c.args.file c.requires.reading.own _ _ _ c.next.ensures.read;
 })
-
-pub returns-in-Err-clause-stands : goal.returns-in-Err-clause-stands
-returns-in-Err-clause-stands g c = rw c.in_feed.ensures.fault (λ opened. feed_standing c.args.file c.in-Err.fault (handle_of
-    c.args.store.now))
 
 -- the file is at its end
 pub returns-in_default-clause-next : goal.returns-in_default-clause-next
@@ -33,18 +31,11 @@ returns-in_default-clause-next g c = λ files old start done state may alone hea
     (g.I.Inputs.view c.next.new.inputs) (handle_of c.args.store.now) (g.S.Sink.view c.args.out.now) head c.args.reader.now c.next.new.self
     (option_copied c.style.result) c.in-Ok.found c.in_default.is c.in-Ok.ensures.block
 
-pub returns-in_default-clause-read : goal.returns-in_default-clause-read
-returns-in_default-clause-read g c = read_alone c.args.reader.now.file c.args.file c.requires.reading.own _ _ _ c.next.ensures.read
-
-pub returns-in_default-clause-keeps : goal.returns-in_default-clause-keeps
-returns-in_default-clause-keeps g c = record {
-  stays = record { same_disk = refl; same_limits = refl };
-  formatted = λ is. absurd (cc
-      (is));
+pub returns-in_default-clause-works : goal.returns-in_default-clause-works
+returns-in_default-clause-works g c = record {
+  keeps = keeps_none c.args.store.now;
+  read = read_alone c.args.reader.now.file c.args.file c.requires.reading.own _ _ _ c.next.ensures.read;
 }
-
-pub returns-in_default-clause-stands : goal.returns-in_default-clause-stands
-returns-in_default-clause-stands g c = λ opened. record { never = λ page is. absurd (cc (is)); stays = λ none. opened }
 
 -- a block is read
 pub returns-in-Ok-follow_block-clause-next : goal.returns-in-Ok-follow_block-clause-next
@@ -64,11 +55,17 @@ returns-in-Err-follow_block-clause-next g c = λ files old start done state may 
     (Some c.in-Err-follow_block.fault)
     (λ more. c.in-Err-follow_block.ensures.block files (g.I.Inputs.view c.next.new.inputs) old start done state may more head)
 
-pub returns-in-Ok-follow_block-clause-read : goal.returns-in-Ok-follow_block-clause-read
-returns-in-Ok-follow_block-clause-read g c = read_alone c.args.reader.now.file c.args.file c.requires.reading.own _ _ _ c.next.ensures.read
+pub returns-in-Ok-follow_block-clause-works : goal.returns-in-Ok-follow_block-clause-works
+returns-in-Ok-follow_block-clause-works g c = record {
+  keeps = c.in-Ok-follow_block.ensures.keeps;
+  read = read_alone c.args.reader.now.file c.args.file c.requires.reading.own _ _ _ c.next.ensures.read;
+}
 
-pub returns-in-Err-follow_block-clause-read : goal.returns-in-Err-follow_block-clause-read
-returns-in-Err-follow_block-clause-read g c = read_alone c.args.reader.now.file c.args.file c.requires.reading.own _ _ _ c.next.ensures.read
+pub returns-in-Err-follow_block-clause-works : goal.returns-in-Err-follow_block-clause-works
+returns-in-Err-follow_block-clause-works g c = record {
+  keeps = c.in-Err-follow_block.ensures.keeps;
+  read = read_alone c.args.reader.now.file c.args.file c.requires.reading.own _ _ _ c.next.ensures.read;
+}
 
 -- each block takes a line at least
 pub returns-in-Ok-follow_block-clause-lines : goal.returns-in-Ok-follow_block-clause-lines

@@ -199,8 +199,8 @@ returns-in-Replay g c =
     let command = replay_of c.in-Replay.store.now c.in-Replay.files c.in-Replay.workers in
     let own = runs_by command (λ (asked : List ℕ). g.I.Inputs.reads c.args.inputs.now asked c.replay.new.inputs) fault old new fits.least
     c.replay.ensures.asked (from_unused new_store old new (replay_course c.in-Replay.files) fault
-    (λ e. absurd (cc)) c.replay.ensures.course) (λ none. absurd (cc)) (λ _. c.replay.ensures.looked)
-    (λ is. absurd (c.replay.ensures.formatted is)) tt tt (λ is. absurd (cc (is))) in
+    (λ e. absurd (cc)) c.replay.ensures.course) (λ none. absurd (cc)) (λ _. c.replay.ensures.makes.looked)
+    (λ is. absurd (c.replay.ensures.makes.formatted is)) tt tt (λ is. absurd (cc (is))) in
     record {
       runs = subst (λ (own : Command). Runs (seen own)
           (λ (asked : List ℕ). g.I.Inputs.reads c.args.inputs.now asked c.replay.new.inputs) old new fault) (sym c.in-Replay.is) own;
@@ -294,7 +294,7 @@ returns-in-Demo g c =
     let own = runs_by command (λ (asked : List ℕ). g.I.Inputs.reads c.args.inputs.now asked c.args.inputs.now) fault old new tt
     (asked_none g.I.Inputs.reads (Names command) c.args.inputs.now (laws.reads_none c.args.inputs.now))
     (from_unused new_store old new (demo_course c.in-Demo.squares.count) fault (λ e. absurd (cc)) c.demo.ensures.course) (λ none. absurd (cc))
-    (λ _. c.demo.ensures.looked) (λ is. absurd (c.demo.ensures.formatted is)) tt tt (λ is. absurd (cc (is))) in
+    (λ _. c.demo.ensures.makes.looked) (λ is. absurd (c.demo.ensures.makes.formatted is)) tt tt (λ is. absurd (cc (is))) in
     record {
       runs = subst (λ (own : Command). Runs (seen own)
           (λ (asked : List ℕ). g.I.Inputs.reads c.args.inputs.now asked c.args.inputs.now) old new fault) (sym c.in-Demo.is) own;

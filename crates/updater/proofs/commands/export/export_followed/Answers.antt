@@ -14,6 +14,7 @@ use Rattle.run_promise.specs.declared.fault.Fault.TheVariants as faults
 use Rattle.updater.proofs.ExportRuns.{always_styled, exports_seen, look_refused_so, see_done, see_refused, seen_style, seen_table, unseen_table}
 use Rattle.updater.proofs.StoreRuns.{behind_look, open_certain, short_text, text_ends}
 use Rattle.updater.proofs.TableLaws.{only_text}
+use Rattle.updater.proofs.FollowKeeps.{keeps_ends, keeps_look, keeps_told, keeps_unlooked}
 use Rattle.updater.proofs.commands.export.export_followed.Goals as goal
 
 pub returns-in-None-clause-goes_on : goal.returns-in-None-clause-goes_on
@@ -84,3 +85,20 @@ returns-clause-goes_on g c = λ old start done held head.
     (behind_look (writes_text (table_text held.style held.tables number) ends) start done (Some faults.OutOfMemory) old all
     (short_text start done 0 old files (handle_of c.load_table.new.self) output (following held) sure
     (λ (own : List ℕ). own ≡ table_text held.style held.tables number) ends))
+
+pub returns-in-Err-clause-keeps : goal.returns-in-Err-clause-keeps
+returns-in-Err-clause-keeps g c = rw c.in_flow.ensures.fault
+    (keeps_unlooked c.args.store.now c.load_table.new.self c.in-Err.fault c.load_table.ensures.stays.over c.in-Err.ensures.stays.alone
+    c.in-Err.ensures.looks)
+
+pub returns-in-Ok-text-clause-keeps : goal.returns-in-Ok-text-clause-keeps
+returns-in-Ok-text-clause-keeps g c =
+    keeps_told c.args.store.now c.load_table.new.self
+    (keeps_look c.args.store.now c.load_table.new.self c.load_table.ensures.stays.over c.in-Ok.ensures.looks)
+    c.tell.result c.tell.ensures.alone
+
+pub returns-clause-keeps : goal.returns-clause-keeps
+returns-clause-keeps g c =
+    keeps_ends c.args.store.now c.load_table.new.self
+    (keeps_look c.args.store.now c.load_table.new.self c.load_table.ensures.stays.over c.in-Ok.ensures.looks)
+    faults.OutOfMemory (λ is. absurd (cc (is))) (λ page is. absurd (cc (is)))

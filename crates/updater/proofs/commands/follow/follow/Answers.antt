@@ -81,6 +81,6 @@ returns g c =
         trusted = λ page is bytes told sound.
             let own = base_blank c.in-Ok.found c.in-Some.base c.in-Some.is (g.D.Disk.view c.open_follower.new.disk)
             (c.in-Ok.ensures.sound bytes told sound).found in
-            (c.follow_files-done.ensures.stands (formatted, c.over-store.ensures.open formatted own.0 own.1)).never page is;
+            (c.follow_files-done.ensures.works.keeps.stands (formatted, c.over-store.ensures.open formatted own.0 own.1)).never page is;
       };
     }
