@@ -171,11 +171,11 @@ pub record KeepsFollower {D : Type 0} {g : Ghosts D} (fault : Option Fault) (old
   pub formatted : fault ≢ Some NotFormatted
   pub stands : KeepsStanding fault (handle_of old) (handle_of new)
 
--- so it is, and no file but this one is read, as far as it is
-pub record FollowsOn {D : Type 0} {g : Ghosts D} (asks : List ℕ → Type 0) (file : ℕ) (fault : Option Fault) (left read : FilesView)
+-- so it is, and no other file is read
+pub record FollowsOn {D : Type 0} {g : Ghosts D} (asks : List ℕ → Type 0) (file : ℕ) (fault : Option Fault) (left now : FilesView)
     (old new : Follower D g) : Type 0 where
   pub keeps : KeepsFollower fault old new
-  pub read : ReadsNoOther file asks left read
+  pub read : ReadsNoOther file asks left now
 
 -- so it is, and no file but such is asked for
 pub record Follows {D : Type 0} {g : Ghosts D} (asks : List ℕ → Type 0) (named : ℕ → Type 0) (fault : Option Fault)

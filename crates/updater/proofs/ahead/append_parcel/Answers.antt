@@ -27,7 +27,8 @@ returns-clause-leads g c = λ files read old start done held become head.
 
 pub returns-in-Err-clause-keeps : goal.returns-in-Err-clause-keeps
 returns-in-Err-clause-keeps g c =
-    keeps_ends c.args.store.now c.args.store.now (keeps_none c.args.store.now) c.in-Err.fault c.in-Err.ensures.formatted c.in-Err.ensures.sound
+    keeps_ends c.args.store.now c.args.store.now (keeps_none c.args.store.now) c.in-Err.fault c.in-Err.ensures.formatted
+    c.in-Err.ensures.sound
 
 pub returns-in-Err-commit_change-clause-keeps : goal.returns-in-Err-commit_change-clause-keeps
 returns-in-Err-commit_change-clause-keeps g c = c.in-Err-commit_change.ensures.keeps

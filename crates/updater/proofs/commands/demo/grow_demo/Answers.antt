@@ -73,7 +73,8 @@ pub returns-in-Err-commit_change-clause-keeps : goal.returns-in-Err-commit_chang
 returns-in-Err-commit_change-clause-keeps g c = c.in-Err-commit_change.ensures.keeps
 
 pub returns-in-Err-second_change_of-clause-keeps : goal.returns-in-Err-second_change_of-clause-keeps
-returns-in-Err-second_change_of-clause-keeps g c = keeps_short c.args.store.now c.commit_change.new.store c.in-Ok-commit_change.ensures.keeps
+returns-in-Err-second_change_of-clause-keeps g c =
+    keeps_short c.args.store.now c.commit_change.new.store c.in-Ok-commit_change.ensures.keeps
 
 pub returns-in-Err-commit_change-2-clause-keeps : goal.returns-in-Err-commit_change-2-clause-keeps
 returns-in-Err-commit_change-2-clause-keeps g c =

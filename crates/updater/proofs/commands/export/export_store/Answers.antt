@@ -123,4 +123,5 @@ returns-in-Ok-text-clause-keeps g c =
 
 pub returns-clause-keeps : goal.returns-clause-keeps
 returns-clause-keeps g c =
-    keeps_short c.args.store.now c.load_table.new.self (keeps_look c.args.store.now c.load_table.new.self c.load_table.ensures.stays.over c.in-Ok.ensures.sound)
+    keeps_short c.args.store.now c.load_table.new.self
+    (keeps_look c.args.store.now c.load_table.new.self c.load_table.ensures.stays.over c.in-Ok.ensures.sound)

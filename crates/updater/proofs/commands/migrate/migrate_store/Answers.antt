@@ -44,7 +44,8 @@ returns-in-Err-clause-goes_on g c = rw c.in_flow.ensures.fault (λ old start don
     (λ is. c.in-Err.ensures.never (ap Err is)))
 
 pub returns-then-not-old-clause-keeps : goal.returns-then-not-old-clause-keeps
-returns-then-not-old-clause-keeps g c = keeps_told c.args.store.now c.args.store.now (keeps_none c.args.store.now) c.tell.result c.tell.ensures.alone
+returns-then-not-old-clause-keeps g c =
+    keeps_told c.args.store.now c.args.store.now (keeps_none c.args.store.now) c.tell.result c.tell.ensures.alone
 
 pub returns-in-Ok-clause-keeps : goal.returns-in-Ok-clause-keeps
 returns-in-Ok-clause-keeps g c = record {

@@ -18,7 +18,7 @@ use Rattle.updater.proofs.Asked.{asked_more, asked_none}
 use Rattle.updater.proofs.StoreRuns.{first_read, first_unread, held_certain, if_there, look_done, look_ends, look_refused, look_short}
 use Rattle.updater.proofs.StoreRuns.{not_yet, outdated_there, same_style}
 use Rattle.updater.proofs.StoreDeeds.{shows_here, refused_so}
-use Rattle.updater.proofs.Keeping.{keeps_look, keeps_told, keeps_unlooked, keeps_unread}
+use Rattle.updater.proofs.Keeping.{keeps_look, keeps_short, keeps_told, keeps_unimported, keeps_unlooked, keeps_unread}
 use Rattle.updater.proofs.commands.query.query_store.Goals as goal
 
 pub returns-then-old-clause-goes_on : goal.returns-then-old-clause-goes_on
