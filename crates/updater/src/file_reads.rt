@@ -24,6 +24,7 @@ pub const READERS: u32 = 4;
 pub struct StyleFile {
     pub style: Style,
     pub bytes: Bytes,
+    ghost read: { reading bytes ≡ Ok style },
 }
 
 /// The entries of a file, read by all hands.
@@ -59,7 +60,6 @@ pub fn read_style_file<I: Inputs>(
 ) -> Result<StyleFile, Fault>
     ensures reads { ReadsFile (IsStyle file) file (λ asked. I.reads inputs.old asked inputs.new)
         (result_map_both (λ own. (own.style, own.bytes)) (λ fault. fault) result) (I.view inputs.old) (I.view inputs.new) }
-    ensures style { IfOk result (λ own. reading own.bytes ≡ Ok own.style) }
 {
     let bytes = match read_all(alloc, inputs, file, MAX_WHOLE) {
         Ok(bytes) => bytes,

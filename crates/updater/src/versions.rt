@@ -1,5 +1,5 @@
 //! Versions of an open store: a file is imported or appended in one commit, and that is told.
-ghost use Rattle.std.specs.Prelude.{◌≡◌, ◌≤◌, ◌+◌, ℕ, List, Ok, IfErr, IfOk, OnErr, OnOk, length};
+ghost use Rattle.std.specs.Prelude.{◌≡◌, ◌≤◌, ◌+◌, ℕ, List, IfErr, IfOk, OnErr, OnOk, length};
 ghost use Rattle.std.specs.Io.KnownBytes.{Appends};
 ghost use Rattle.std.specs.Result.{result_err};
 ghost use Rattle.outside.specs.Bytes.{AppendsPrefix};
@@ -7,7 +7,6 @@ ghost use Rattle.osm_base.specs.declared.bounds.limits.TheConstants.{MAX_ENTRIES
 ghost use Rattle.outside.specs.Causes.{HasCause};
 ghost use Rattle.outside.specs.Inputs.{FilesView};
 ghost use Rattle.page_journal.specs.Crash.{IsAtRest};
-ghost use Rattle.style_read.specs.Reading.{reading};
 ghost use Rattle.update_flow.specs.Handle.{IsOpen, changes_of, view_of};
 ghost use Rattle.update_flow.specs.State.{Holding, formatted, imported};
 ghost use Rattle.update_flow.specs.Updater.{handle_of};
@@ -62,7 +61,6 @@ pub fn import_change<R: Threads + Sync, D: Disk, S: Sink, G: Gate>(
     store: &mut Updater<'_, D>,
     out: &mut S,
 ) -> Result<(), Fault>
-    requires style { reading style.bytes ≡ Ok style.style }
     requires buckets { AreBuckets buckets }
     requires few { length change ≤ MAX_ENTRIES }
     ensures leads { (next : ℕ) (files : FilesView) (old : Before) (start done : Progress)
@@ -88,7 +86,6 @@ pub fn import_file<R: Threads + Sync, I: Inputs, D: Disk, S: Sink, G: Gate>(
     store: &mut Updater<'_, D>,
     out: &mut S,
 ) -> Result<(), Fault>
-    requires style { reading style.bytes ≡ Ok style.style }
     requires buckets { AreBuckets buckets }
     ensures leads { (old : Before) (start done : Progress) → IsHead start done formatted file old (I.view inputs.old) (handle_of store.old) (S.view out.old)
         → Leads (λ last. imports (style.style, style.bytes) buckets file (onward last)) (result_err result) start done (file + 1) old

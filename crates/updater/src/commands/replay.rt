@@ -1,8 +1,7 @@
 //! `replay STORE STYLE BOUNDS INPUT CHANGE*`: a store made, imported and changed, and all that it holds.
-ghost use Rattle.std.specs.Prelude.{◌≡◌, ◌≢◌, ◌≤◌, ◌+◌, List, ℕ, Ok, Some};
+ghost use Rattle.std.specs.Prelude.{◌≢◌, ◌≤◌, ◌+◌, List, ℕ, Some};
 ghost use Rattle.std.specs.Result.{result_err};
 ghost use Rattle.outside.specs.Inputs.{FilesView};
-ghost use Rattle.style_read.specs.Reading.{reading};
 ghost use Rattle.update_flow.specs.Handle.{view_of};
 ghost use Rattle.update_flow.specs.State.{Holding, State, imported};
 ghost use Rattle.update_flow.specs.Updater.{handle_of};
@@ -111,7 +110,6 @@ fn make_store<R: Threads + Sync, I: Inputs, D: Disk, S: Sink, G: Gate>(
     disk: &mut D,
     out: &mut S,
 ) -> Result<(), Fault>
-    requires style { reading style.bytes ≡ Ok style.style }
     requires fits { first + 1 + changes ≤ 8192 }
     ensures goes_on { (old : Before) (read : List ℕ)
         → IsSoFar (begun unused 0) (reading_alone read) first old (I.view inputs.old) (D.view disk.old) (S.view out.old)
@@ -150,7 +148,6 @@ fn fill_store<R: Threads + Sync, I: Inputs, D: Disk, S: Sink, G: Gate>(
     store: &mut Updater<'_, D>,
     out: &mut S,
 ) -> Result<(), Fault>
-    requires style { reading style.bytes ≡ Ok style.style }
     requires fits { first + 1 + changes ≤ 8192 }
     ensures goes_on { (old : Before) (start done : Progress) (state : State) → IsHead start done state first old (I.view inputs.old) (handle_of store.old) (S.view out.old)
         → GoesOn (if_blank (fills (style.style, style.bytes) bounds.now first changes) state) start done (result_err result) old
