@@ -252,7 +252,6 @@ module _ {K : Type 0} (after : K → Entry → K) (limits : LimitNumbers) (first
 pub new_reads : {K : Type 0} (takes : K → KeyOf → Type 0) (limits : LimitNumbers) (lot : ℕ) (reader : LotReader) (keeper : K) → IsNew lot reader
     → TakesNext takes None keeper → IsReading takes limits reader keeper
 new_reads takes limits lot reader keeper new next = record {
-  workers = new.workers;
   room = new.room;
   goes = subst (λ (own : Passed). GoesOn takes limits own keeper) (sym new.passed)
       (record { lines = omega arith; entries = omega arith; next = next });

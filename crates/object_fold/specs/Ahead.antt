@@ -1,8 +1,11 @@
 -- Bytes of a file that are read ahead of its lines.
-use Rattle.std.specs.Prelude.{◌≡◌, ◌≤◌, ◌<◌, ℕ, ◌+◌, List, [], ◌++◌, length, Option, false}
+use Rattle.std.specs.Prelude.{◌≡◌, ◌≤◌, ◌<◌, ℕ, ◌+◌, List, [], ◌++◌, length, Option, Result, OnOk, false}
 use Rattle.outside.specs.Bytes.{BothKnown}
+use Rattle.outside.specs.Inputs.{FilesView}
 use Rattle.object_fold.specs.declared.ahead.Ahead.{Ahead}
+use Rattle.object_fold.specs.declared.fault.FileFault.{FileFault}
 use Rattle.object_fold.specs.declared.scan.TheConstants.{PIECE}
+use Rattle.object_fold.specs.ReadsOnly.{ReadsOnly}
 
 -- behind bytes that are kept some were read, with those so many at most
 abbrev pub ReadsBehind : ℕ → List ℕ → Option (List ℕ) → Option (List ℕ) → Type 0
@@ -29,3 +32,10 @@ pub record Fills (old new : Ahead) (left rest : Option (List ℕ)) : Type 0 wher
   pub lot : new.lot ≡ old.lot
   pub room : HasRoom new
   pub few : length new.kept.items ≤ most_of_lot old
+
+-- more of this file was read ahead, up to a lot; where it stops, no more was read than that
+pub record ReadsAhead {A : Type 0} (outcome : Result A FileFault) (old new : Ahead) (file : ℕ) (asks : List ℕ → Type 0)
+    (before after : FilesView) : Type 0 where
+  pub filled : OnOk outcome (Fills old new (before.left file) (after.left file))
+  pub left : ReadsBehind (most_of_lot old) old.kept.items (before.left file) (after.left file)
+  pub reads : ReadsOnly outcome file (λ _. ⊥) asks before after

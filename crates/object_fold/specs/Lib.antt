@@ -10,6 +10,7 @@ pub mod Parts
 pub mod Passed
 pub mod Progress
 pub mod Reading
+pub mod ReadsOnly
 pub mod RisingIds
 pub mod Stops
 pub mod Whole

@@ -1,7 +1,7 @@
 -- A file that is read by lots: the lines of each are read side by side, and put behind those before.
 -- So at each moment the whole file comes to what the lines that were taken come to with all that is behind them (`HasLines`): the bytes
 -- that are kept, of which no line was taken yet, and those that are left in the file.
-use Rattle.std.specs.Prelude.{◌≡◌, ◌≤◌, ◌<◌, ℕ, ◌*◌, List, [], ◌++◌, length, take, Option, Bool, false, true}
+use Rattle.std.specs.Prelude.{◌≡◌, ◌≤◌, ℕ, ◌*◌, List, [], ◌++◌, length, take, Option, Bool, false, true}
 use Rattle.osm_base.specs.declared.bounds.limits.LimitNumbers.{LimitNumbers}
 use Rattle.osm_base.specs.declared.values.object.Entry.{Entry}
 use Rattle.osm_base.specs.values.Key.{KeyOf}
@@ -66,7 +66,6 @@ most_kept reader = 3 * most_of_lot reader.ahead
 
 -- nothing is read yet
 pub record IsNew (lot : ℕ) (reader : LotReader) : Type 0 where
-  pub workers : 0 < reader.workers
   pub room : HasRoom reader.ahead
   pub size : reader.ahead.lot ≡ lot
   pub more : reader.ahead.more ≡ true
@@ -91,18 +90,27 @@ pub record Gives {K : Type 0} (takes : K → KeyOf → Type 0) (after : K → En
   pub lines : TakesLines after limits old.passed before (take used old.bytes.items) new.passed now []
   pub goes : GoesOn takes limits new.passed now
 
--- there are workers and room for a read, a keeper may be given the entries behind the lines that were taken, the lot that waits has its
+-- there is room for a read, a keeper may be given the entries behind the lines that were taken, the lot that waits has its
 -- shares, and there are no more bytes than may be
 pub record IsReading {K : Type 0} (takes : K → KeyOf → Type 0) (limits : LimitNumbers) (reader : LotReader) (keeper : K) : Type 0 where
-  pub workers : 0 < reader.workers
   pub room : HasRoom reader.ahead
   pub goes : GoesOn takes limits reader.waiting.passed keeper
   pub shares : AreShares limits reader.waiting.bytes.items reader.waiting.shares.items
   pub few : length reader.waiting.bytes.items ≤ most_of_lot reader.ahead
   pub next : length reader.ahead.kept.items ≤ 2 * most_of_lot reader.ahead
 
+-- the next lot may be read beside the one that waits
+pub record MayTakeLot {K : Type 0} (takes : K → KeyOf → Type 0) (limits : LimitNumbers) (reader : LotReader) (keeper : K) : Type 0 where
+  pub reading : IsReading takes limits reader keeper
+  pub next : length reader.ahead.kept.items ≤ most_of_lot reader.ahead
+
 -- no lot waits, and one reader may go on behind the lines that were taken
 pub record IsSettled {K : Type 0} (takes : K → KeyOf → Type 0) (limits : LimitNumbers) (reader : LotReader) (keeper : K) : Type 0 where
   pub room : HasRoom reader.ahead
   pub goes : GoesOn takes limits reader.waiting.passed keeper
   pub few : length reader.ahead.kept.items ≤ most_kept reader
+
+-- one reader may go on, and lots are as long as they were
+pub record Settles {K : Type 0} (takes : K → KeyOf → Type 0) (limits : LimitNumbers) (old new : LotReader) (keeper : K) : Type 0 where
+  pub settled : IsSettled takes limits new keeper
+  pub lot : new.ahead.lot ≡ old.ahead.lot

@@ -1,12 +1,13 @@
 //! The bytes of a file that are read ahead of its lines.
 ghost use Rattle.std.specs.Prelude.{◌≡◌, ◌<◌, ◌≤◌, ◌+◌, ◌++◌, [], false, true, length, IfOk, IfErr, IfSome, IsNone, OnOk, OnErr};
 ghost use Rattle.outside.specs.Causes.{Rose};
-ghost use Rattle.object_fold.specs.Ahead.{Fills, HasRoom, ReadsBehind, most_of_lot};
-ghost use Rattle.object_fold.specs.Reading.{ReadsAtMost, ReadsNoOther, ReadsOnce};
+ghost use Rattle.object_fold.specs.Ahead.{HasRoom, ReadsAhead, most_of_lot};
+ghost use Rattle.object_fold.specs.Reading.{ReadsAtMost, ReadsOnce};
 ghost use Rattle.object_fold.specs.Stops.{Stops};
 ghost use Rattle.object_fold.specs.Whole.{MovesBytes};
 
 use crate::FileFault;
+use crate::lot_size::LotSize;
 use crate::scan::PIECE;
 use osm_base::OutOfMemory;
 use outside::Inputs;
@@ -61,16 +62,15 @@ fn lines_end(bytes: &[u8]) -> usize
 
 impl Ahead {
     /// Nothing is read yet.
-    pub fn new(alloc: Global, lot: usize) -> Result<Self, OutOfMemory>
-        requires lot { 0 < lot }
+    pub fn new(alloc: Global, lot: LotSize) -> Result<Self, OutOfMemory>
         ensures room { IfOk result HasRoom }
-        ensures lot { IfOk result (λ ahead. ahead.lot ≡ lot) }
+        ensures lot { IfOk result (λ ahead. ahead.lot ≡ lot.bytes) }
         ensures more { IfOk result (λ ahead. ahead.more ≡ true) }
         ensures kept { IfOk result (λ ahead. ahead.kept.items ≡ []) }
     {
         Ok(Self {
-            lot,
-            buffer: vec![in alloc; 0u8; lot.min(PIECE)]?,
+            lot: lot.bytes,
+            buffer: vec![in alloc; 0u8; lot.bytes.min(PIECE)]?,
             kept: Vec::new(alloc),
             more: true,
         })
@@ -80,11 +80,8 @@ impl Ahead {
     pub fn fill<I: Inputs>(&mut self, inputs: &mut I, file: u32) -> Result<(), FileFault>
         requires room { HasRoom self.old }
         requires few { length self.old.kept.items ≤ most_of_lot self.old }
-        ensures filled { OnOk result (Fills self.old self.new ((I.view inputs.old).left file) ((I.view inputs.new).left file)) }
-        ensures left { ReadsBehind (most_of_lot self.old) self.old.kept.items
-            ((I.view inputs.old).left file) ((I.view inputs.new).left file) }
-        ensures stopped { IfErr result (Stops (λ _. ⊥) (Rose (I.view inputs.old).faults (I.view inputs.new).faults)) }
-        ensures read { ReadsNoOther file (λ asked. I.reads inputs.old asked inputs.new) (I.view inputs.old) (I.view inputs.new) }
+        ensures ahead { ReadsAhead result self.old self.new file (λ asked. I.reads inputs.old asked inputs.new)
+            (I.view inputs.old) (I.view inputs.new) }
     {
         while self.more && self.kept.len() < self.lot {
             self.more = keep_read(inputs, file, &mut self.buffer, &mut self.kept)?;

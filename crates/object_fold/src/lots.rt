@@ -4,15 +4,17 @@ ghost use Rattle.outside.specs.Bytes.{IfTold};
 ghost use Rattle.outside.specs.Causes.{Rose};
 ghost use Rattle.object_fold.specs.Ahead.{most_of_lot};
 ghost use Rattle.object_fold.specs.Entries.{IsAccepted};
-ghost use Rattle.object_fold.specs.Lots.{HasCome, IsNew, IsReading, IsSettled, IsThere, ReadsNoFurtherThan, most_kept};
+ghost use Rattle.object_fold.specs.Lots.{HasCome, IsNew, IsReading, IsSettled, IsThere, MayTakeLot, ReadsNoFurtherThan, Settles, most_kept};
 ghost use Rattle.object_fold.specs.Reading.{HasEntries, IsFaultOf, ReadsNoOther, ReadsAll, TakesNext};
+ghost use Rattle.object_fold.specs.ReadsOnly.{ReadsOnly};
 ghost use Rattle.object_fold.specs.Stops.{Stops};
 
 use crate::ahead::Ahead;
+use crate::lot_size::LotSize;
 use crate::progress::Progress;
 use crate::scan::{PIECE, read_on, scan_file};
 use crate::waiting::{Waiting, read_beside};
-use crate::{Change, FileFault, Keeper};
+use crate::{Change, FileFault, Keeper, Workers};
 use osm_base::{Limits, OutOfMemory};
 use outside::Inputs;
 use std::alloc::Global;
@@ -26,7 +28,7 @@ pub const LOT: usize = 1_351_680;
 /// How far a file was read: the lines that were taken and the lot that waits behind them, and the bytes that were read behind it.
 #[derive(Drop)]
 pub struct LotReader {
-    workers: u32,
+    workers: Workers,
     waiting: Waiting,
     ahead: Ahead,
     /// The room that a lot had.
@@ -46,10 +48,8 @@ fn drop_front(alloc: Global, kept: &mut Vec<u8>, count: usize) -> Result<(), Out
 
 impl LotReader {
     /// Nothing is read yet.
-    fn new(alloc: Global, workers: u32, lot: usize) -> Result<Self, OutOfMemory>
-        requires workers { 0 < workers }
-        requires lot { 0 < lot }
-        ensures new { IfOk result (λ reader. IsNew lot reader) }
+    fn new(alloc: Global, workers: Workers, lot: LotSize) -> Result<Self, OutOfMemory>
+        ensures new { IfOk result (λ reader. IsNew lot.bytes reader) }
     {
         Ok(Self {
             workers,
@@ -70,8 +70,7 @@ impl LotReader {
         limits: &Limits,
         keeper: &mut K,
     ) -> Result<bool, FileFault>
-        requires reading { IsReading K.takes limits.now self.old keeper.old }
-        requires next { length self.old.ahead.kept.items ≤ most_of_lot self.old.ahead }
+        requires ready { MayTakeLot K.takes limits.now self.old keeper.old }
         ensures reading { OnOk result (IsReading K.takes limits.now self.new keeper.new) }
         ensures next { IfOk result (λ more. more ≡ true → length self.new.ahead.kept.items ≤ most_of_lot self.new.ahead) }
         ensures lot { OnOk result (self.new.ahead.lot ≡ self.old.ahead.lot) }
@@ -79,8 +78,8 @@ impl LotReader {
             → IsThere K.after limits.now first self.new keeper.new start ((I.view inputs.new).left file)) }
         ensures left { OnErr result ((first : K) (start : Option (List ℕ)) → IsThere K.after limits.now first self.old keeper.old start ((I.view inputs.old).left file)
             → ReadsNoFurtherThan (most_kept self.old) limits.now start ((I.view inputs.new).left file)) }
-        ensures stopped { IfErr result (Stops (λ _. ⊥) (Rose (I.view inputs.old).faults (I.view inputs.new).faults)) }
-        ensures read { ReadsNoOther file (λ asked. I.reads inputs.old asked inputs.new) (I.view inputs.old) (I.view inputs.new) }
+        ensures reads { ReadsOnly result file (λ _. ⊥) (λ asked. I.reads inputs.old asked inputs.new)
+            (I.view inputs.old) (I.view inputs.new) }
     {
         // Three lots change places, so that none needs memory anew.
         let room = mem::replace(&mut self.room, Vec::new(alloc));
@@ -118,16 +117,15 @@ impl LotReader {
         limits: &Limits,
         keeper: &mut K,
     ) -> Result<(), FileFault>
-        requires reading { IsReading K.takes limits.now self.old keeper.old }
-        requires next { length self.old.ahead.kept.items ≤ most_of_lot self.old.ahead }
+        requires ready { MayTakeLot K.takes limits.now self.old keeper.old }
         ensures reading { OnOk result (IsReading K.takes limits.now self.new keeper.new) }
         ensures lot { OnOk result (self.new.ahead.lot ≡ self.old.ahead.lot) }
         ensures lots { OnOk result ((first : K) (start : Option (List ℕ)) → IsThere K.after limits.now first self.old keeper.old start ((I.view inputs.old).left file)
             → IsThere K.after limits.now first self.new keeper.new start ((I.view inputs.new).left file)) }
         ensures left { OnErr result ((first : K) (start : Option (List ℕ)) → IsThere K.after limits.now first self.old keeper.old start ((I.view inputs.old).left file)
             → ReadsNoFurtherThan (most_kept self.old) limits.now start ((I.view inputs.new).left file)) }
-        ensures stopped { IfErr result (Stops (λ _. ⊥) (Rose (I.view inputs.old).faults (I.view inputs.new).faults)) }
-        ensures read { ReadsNoOther file (λ asked. I.reads inputs.old asked inputs.new) (I.view inputs.old) (I.view inputs.new) }
+        ensures reads { ReadsOnly result file (λ _. ⊥) (λ asked. I.reads inputs.old asked inputs.new)
+            (I.view inputs.old) (I.view inputs.new) }
     {
         // Each has a line at least, or it is the last one.
         for _ in 0..limits.lines() {
@@ -146,8 +144,7 @@ impl LotReader {
         keeper: &mut K,
     ) -> Result<(), OutOfMemory>
         requires reading { IsReading K.takes limits.now self.old keeper.old }
-        ensures settled { OnOk result (IsSettled K.takes limits.now self.new keeper.new) }
-        ensures lot { OnOk result (self.new.ahead.lot ≡ self.old.ahead.lot) }
+        ensures settled { OnOk result (Settles K.takes limits.now self.old self.new keeper.new) }
         ensures lots { OnOk result ((first : K) (start left : Option (List ℕ)) → IsThere K.after limits.now first self.old keeper.old start left
             → HasCome K.after limits.now first self.new.waiting.passed keeper.new self.new.ahead.kept.items self.new.ahead.more start left) }
     {
@@ -168,16 +165,14 @@ impl LotReader {
         limits: &Limits,
         keeper: &mut K,
     ) -> Result<(), FileFault>
-        requires reading { IsReading K.takes limits.now self.old keeper.old }
-        requires next { length self.old.ahead.kept.items ≤ most_of_lot self.old.ahead }
-        ensures settled { OnOk result (IsSettled K.takes limits.now self.new keeper.new) }
-        ensures lot { OnOk result (self.new.ahead.lot ≡ self.old.ahead.lot) }
+        requires ready { MayTakeLot K.takes limits.now self.old keeper.old }
+        ensures settled { OnOk result (Settles K.takes limits.now self.old self.new keeper.new) }
         ensures lots { OnOk result ((first : K) (start : Option (List ℕ)) → IsThere K.after limits.now first self.old keeper.old start ((I.view inputs.old).left file)
             → HasCome K.after limits.now first self.new.waiting.passed keeper.new self.new.ahead.kept.items self.new.ahead.more start ((I.view inputs.new).left file)) }
         ensures left { OnErr result ((first : K) (start : Option (List ℕ)) → IsThere K.after limits.now first self.old keeper.old start ((I.view inputs.old).left file)
             → ReadsNoFurtherThan (most_kept self.old) limits.now start ((I.view inputs.new).left file)) }
-        ensures stopped { IfErr result (Stops (λ _. ⊥) (Rose (I.view inputs.old).faults (I.view inputs.new).faults)) }
-        ensures read { ReadsNoOther file (λ asked. I.reads inputs.old asked inputs.new) (I.view inputs.old) (I.view inputs.new) }
+        ensures reads { ReadsOnly result file (λ _. ⊥) (λ asked. I.reads inputs.old asked inputs.new)
+            (I.view inputs.old) (I.view inputs.new) }
     {
         self.ahead.fill(inputs, file)?;
         self.take_lots(rt, alloc, inputs, file, limits, keeper)?;
@@ -201,11 +196,10 @@ impl LotReader {
         ensures left { OnErr result ((first : K) (start : Option (List ℕ))
             → HasCome K.after limits.now first self.waiting.passed keeper.old self.ahead.kept.items self.ahead.more start ((I.view inputs.old).left file)
             → ReadsNoFurtherThan (most_kept self) limits.now start ((I.view inputs.new).left file)) }
-        ensures stopped { IfErr result (Stops (λ fault. (first : K) (start : Option (List ℕ))
+        ensures reads { ReadsOnly result file (λ fault. (first : K) (start : Option (List ℕ))
             → HasCome K.after limits.now first self.waiting.passed keeper.old self.ahead.kept.items self.ahead.more start ((I.view inputs.old).left file)
             → IsFaultOf limits.now start fault)
-            (Rose (I.view inputs.old).faults (I.view inputs.new).faults)) }
-        ensures read { ReadsNoOther file (λ asked. I.reads inputs.old asked inputs.new) (I.view inputs.old) (I.view inputs.new) }
+            (λ asked. I.reads inputs.old asked inputs.new) (I.view inputs.old) (I.view inputs.new) }
     {
         let Self {
             workers: _,
@@ -262,7 +256,8 @@ pub fn scan_by_lots<I: Inputs, R: Threads + Sync, K: Keeper>(
         ((I.view inputs.old).left file) ((I.view inputs.new).left file)) }
     ensures read { ReadsNoOther file (λ asked. I.reads inputs.old asked inputs.new) (I.view inputs.old) (I.view inputs.new) }
 {
-    let mut reader = LotReader::new(alloc, workers, lot)?;
+    let workers = Workers { count: workers };
+    let mut reader = LotReader::new(alloc, workers, LotSize { bytes: lot })?;
     reader.read_lots(rt, alloc, inputs, file, limits, keeper)?;
     reader.finish(alloc, inputs, file, limits, keeper)?;
     Ok(())

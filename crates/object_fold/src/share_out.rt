@@ -1,9 +1,10 @@
 //! Bytes cut into pieces, of which each worker reads the lines of one.
-ghost use Rattle.std.specs.Prelude.{◌≡◌, ◌<◌, ◌≤◌, IfOk, length, flat_map};
+ghost use Rattle.std.specs.Prelude.{◌≡◌, ◌≤◌, IfOk, length, flat_map};
 ghost use Rattle.std.specs.List.{AllZip};
 ghost use Rattle.osm_base.specs.declared.bounds.limits.LimitNumbers.{LimitNumbers};
 ghost use Rattle.object_fold.specs.Parts.{AreShares, IsShareOf};
 
+use crate::Workers;
 use crate::parts::Share;
 use opl_lines::first_line;
 use std::alloc::{AllocError, Global};
@@ -25,19 +26,18 @@ pub fn piece_end(bytes: &[u8], least: usize) -> usize
 pub fn pieces_of(
     alloc: Global,
     bytes: &[u8],
-    workers: u32,
+    workers: Workers,
     least: usize,
 ) -> Result<Vec<&[u8]>, AllocError>
-    requires workers { 0 < workers }
     ensures whole { IfOk result (λ pieces. flat_map (λ piece. piece.now) pieces.items ≡ bytes.now) }
-    ensures few { IfOk result (λ pieces. length pieces.items ≤ workers) }
+    ensures few { IfOk result (λ pieces. length pieces.items ≤ workers.count) }
 {
     let mut pieces = Vec::new(alloc);
     if bytes.is_empty() {
         return Ok(pieces);
     }
     let mut rest = bytes;
-    for _ in 1..workers {
+    for _ in 1..workers.count {
         let (piece, behind) = rest.split_at(piece_end(rest, least));
         if behind.is_empty() {
             break;

@@ -1,20 +1,17 @@
 //! A lot of a file whose lines were read, and wait to be put behind those before.
-ghost use Rattle.std.specs.Prelude.{◌≡◌, ◌<◌, ◌≤◌, ◌∷◌, ◌++◌, ℕ, [], IfOk, IfErr, OnOk, flat_map, length, drop};
+ghost use Rattle.std.specs.Prelude.{◌≡◌, ◌<◌, ◌≤◌, ◌∷◌, ◌++◌, ℕ, [], IfOk, OnOk, flat_map, length, drop};
 ghost use Rattle.std.specs.List.{AllZip};
 ghost use Rattle.std.specs.Thread.{IsSync};
 ghost use Rattle.osm_base.specs.declared.bounds.limits.LimitNumbers.{LimitNumbers};
-ghost use Rattle.outside.specs.Causes.{Rose};
-ghost use Rattle.object_fold.specs.Ahead.{Fills, ReadsBehind, most_of_lot};
+ghost use Rattle.object_fold.specs.Ahead.{ReadsAhead};
 ghost use Rattle.object_fold.specs.Lots.{Gives, IsReady};
 ghost use Rattle.object_fold.specs.Parts.{AreShares, GoesOn, IsShareOf, bytes_in, none_passed};
-ghost use Rattle.object_fold.specs.Reading.{ReadsNoOther};
-ghost use Rattle.object_fold.specs.Stops.{Stops};
 
 use crate::ahead::Ahead;
 use crate::parts::{Share, give_shares, read_share};
 use crate::passed::Passed;
 use crate::share_out::{leave_out, piece_end, pieces_of};
-use crate::{FileFault, Keeper};
+use crate::{FileFault, Keeper, Workers};
 use osm_base::{Entry, Limits, OutOfMemory};
 use outside::Inputs;
 use std::alloc::Global;
@@ -112,15 +109,13 @@ pub fn behind<'a>(bytes: &'a [u8], shares: &[Share]) -> &'a [u8]
 }
 
 /// How many bytes of a lot are read by the worker that gives the entries of the lot before it, if there is one, and reads the next ahead.
-fn own_len(lot: usize, workers: u32, is_first: bool) -> usize
-    requires workers { 0 < workers }
-{
+fn own_len(lot: usize, workers: Workers, is_first: bool) -> usize {
     if is_first {
-        return lot / workers as usize;
+        return lot / workers.count as usize;
     }
     // To put a lot behind takes about a ninth of what it takes to read one.
-    let others = (workers - 1) as usize;
-    lot.saturating_sub((lot / 9).saturating_mul(others)) / workers as usize
+    let others = (workers.count - 1) as usize;
+    lot.saturating_sub((lot / 9).saturating_mul(others)) / workers.count as usize
 }
 
 /// Lets go of these entries, and answers the room that the last of them had.
@@ -148,16 +143,17 @@ fn one_share(alloc: Global, share: Share) -> Result<Vec<Share>, OutOfMemory>
 fn pieces_beside<'a>(
     waiting: &Waiting,
     bytes: &'a [u8],
-    workers: u32,
+    workers: Workers,
     lot: usize,
 ) -> Result<Vec<&'a [u8]>, OutOfMemory>
-    requires workers { 0 < workers }
     ensures whole { IfOk result (λ pieces. flat_map (λ piece. piece.now) pieces.items ≡ bytes.now) }
 {
     let own = own_len(lot, workers, waiting.shares.is_empty());
     let (front, rest) = bytes.split_at(piece_end(bytes, own));
-    let others = (workers - 1).max(1);
-    let least = lot.saturating_sub(own) / others as usize;
+    let others = Workers {
+        count: (workers.count - 1).max(1),
+    };
+    let least = lot.saturating_sub(own) / others.count as usize;
     let mut pieces = Vec::new(waiting.alloc);
     pieces.push(front)?;
     pieces.append(&mut pieces_of(waiting.alloc, rest, others, least)?)?;
@@ -175,11 +171,8 @@ fn give_and_fill<I: Inputs, K: Keeper>(
 ) -> Result<usize, FileFault>
     requires ready { IsReady K.takes limits.now waiting.old keeper.old ahead.old }
     ensures given { IfOk result (λ used. Gives K.takes K.after limits.now waiting.old keeper.old used waiting.new keeper.new) }
-    ensures filled { OnOk result (Fills ahead.old ahead.new ((I.view inputs.old).left file) ((I.view inputs.new).left file)) }
-    ensures left { ReadsBehind (most_of_lot ahead.old) ahead.old.kept.items
-        ((I.view inputs.old).left file) ((I.view inputs.new).left file) }
-    ensures stopped { IfErr result (Stops (λ _. ⊥) (Rose (I.view inputs.old).faults (I.view inputs.new).faults)) }
-    ensures read { ReadsNoOther file (λ asked. I.reads inputs.old asked inputs.new) (I.view inputs.old) (I.view inputs.new) }
+    ensures ahead { ReadsAhead result ahead.old ahead.new file (λ asked. I.reads inputs.old asked inputs.new)
+        (I.view inputs.old) (I.view inputs.new) }
 {
     let used = waiting.give(limits, keeper)?;
     ahead.fill(inputs, file)?;
@@ -202,11 +195,8 @@ fn read_with_others<I: Inputs, R: Threads + Sync, K: Keeper>(
 ) -> (Result<usize, FileFault>, Result<Vec<Share>, OutOfMemory>)
     requires ready { IsReady K.takes limits.now waiting.old keeper.old ahead.old }
     ensures given { IfOk result.0 (λ used. Gives K.takes K.after limits.now waiting.old keeper.old used waiting.new keeper.new) }
-    ensures filled { OnOk result.0 (Fills ahead.old ahead.new ((I.view inputs.old).left file) ((I.view inputs.new).left file)) }
-    ensures left { ReadsBehind (most_of_lot ahead.old) ahead.old.kept.items
-        ((I.view inputs.old).left file) ((I.view inputs.new).left file) }
-    ensures stopped { IfErr result.0 (Stops (λ _. ⊥) (Rose (I.view inputs.old).faults (I.view inputs.new).faults)) }
-    ensures read { ReadsNoOther file (λ asked. I.reads inputs.old asked inputs.new) (I.view inputs.old) (I.view inputs.new) }
+    ensures ahead { ReadsAhead result.0 ahead.old ahead.new file (λ asked. I.reads inputs.old asked inputs.new)
+        (I.view inputs.old) (I.view inputs.new) }
     ensures shares { IfOk result.1 (λ shares. AllZip (λ piece share. IsShareOf limits.now piece.now share) pieces.now shares.items) }
 {
     let alloc = waiting.alloc;
@@ -235,11 +225,8 @@ fn read_with_others<I: Inputs, R: Threads + Sync, K: Keeper>(
         &mut || -> (Result<usize, FileFault>, Result<Vec<Share>, OutOfMemory>)
             requires { IsSync R.row × IsReady K.takes limits.now waiting.now keeper.now ahead.now }
             ensures { IfOk result.0 (λ used. Gives K.takes K.after limits.entry.now waiting.entry.now keeper.entry.now used waiting.exit.now keeper.exit.now)
-                × OnOk result.0 (Fills ahead.entry.now ahead.exit.now ((I.view inputs.entry.now).left file) ((I.view inputs.exit.now).left file))
-                × ReadsBehind (most_of_lot ahead.entry.now) ahead.entry.now.kept.items
-                ((I.view inputs.entry.now).left file) ((I.view inputs.exit.now).left file)
-                × IfErr result.0 (Stops (λ _. ⊥) (Rose (I.view inputs.entry.now).faults (I.view inputs.exit.now).faults))
-                × ReadsNoOther file (λ asked. I.reads inputs.entry.now asked inputs.exit.now) (I.view inputs.entry.now) (I.view inputs.exit.now)
+                × ReadsAhead result.0 ahead.entry.now ahead.exit.now file (λ asked. I.reads inputs.entry.now asked inputs.exit.now)
+                (I.view inputs.entry.now) (I.view inputs.exit.now)
                 × IfOk result.1 (λ shares. AllZip (λ piece share. IsShareOf limits.entry.now piece.now share) others.entry.now shares.items) }
         {
             read_with_others(
@@ -262,21 +249,17 @@ pub fn read_beside<I: Inputs, R: Threads + Sync, K: Keeper>(
     rt: &R,
     limits: &Limits,
     bytes: &[u8],
-    workers: u32,
+    workers: Workers,
     waiting: &mut Waiting,
     keeper: &mut K,
     ahead: &mut Ahead,
     inputs: &mut I,
     file: u32,
 ) -> Result<(usize, Vec<Share>), FileFault>
-    requires workers { 0 < workers }
     requires ready { IsReady K.takes limits.now waiting.old keeper.old ahead.old }
     ensures given { IfOk result (λ read. Gives K.takes K.after limits.now waiting.old keeper.old read.0 waiting.new keeper.new) }
-    ensures filled { OnOk result (Fills ahead.old ahead.new ((I.view inputs.old).left file) ((I.view inputs.new).left file)) }
-    ensures left { ReadsBehind (most_of_lot ahead.old) ahead.old.kept.items
-        ((I.view inputs.old).left file) ((I.view inputs.new).left file) }
-    ensures stopped { IfErr result (Stops (λ _. ⊥) (Rose (I.view inputs.old).faults (I.view inputs.new).faults)) }
-    ensures read { ReadsNoOther file (λ asked. I.reads inputs.old asked inputs.new) (I.view inputs.old) (I.view inputs.new) }
+    ensures ahead { ReadsAhead result ahead.old ahead.new file (λ asked. I.reads inputs.old asked inputs.new)
+        (I.view inputs.old) (I.view inputs.new) }
     ensures shares { IfOk result (λ read. AreShares limits.now bytes.now read.1.items) }
 {
     let pieces = pieces_beside(waiting, bytes, workers, ahead.lot)?;

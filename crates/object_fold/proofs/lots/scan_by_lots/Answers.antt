@@ -11,12 +11,12 @@ returns-in_err-reader-clause-left g c =
 
 -- the lots
 
-pub read_lots-requires-clause-reading : goal.read_lots-requires-clause-reading
-read_lots-requires-clause-reading g c lifetimes lives =
-    new_reads g.K.Keeper.takes c.args.limits.now c.args.lot c.in_ok-reader.reader c.args.keeper.now c.in_ok-reader.ensures.new c.requires.takes
-
-pub read_lots-requires-clause-next : goal.read_lots-requires-clause-next
-read_lots-requires-clause-next g c lifetimes lives = omega (arith, ap length c.in_ok-reader.ensures.new.kept)
+pub read_lots-requires-clause-ready : goal.read_lots-requires-clause-ready
+read_lots-requires-clause-ready g c lifetimes lives = record {
+  reading = new_reads g.K.Keeper.takes c.args.limits.now c.args.lot c.in_ok-reader.reader c.args.keeper.now c.in_ok-reader.ensures.new
+      c.requires.takes;
+  next = omega (arith, ap length c.in_ok-reader.ensures.new.kept);
+}
 
 pub returns-in_err-read_lots-clause-left : goal.returns-in_err-read_lots-clause-left
 returns-in_err-read_lots-clause-left g c =
@@ -47,13 +47,13 @@ returns-in_err-finish-clause-left g c =
     (new_there g.K.Keeper.after limits first c.args.lot c.in_ok-reader.reader c.in_ok-reader.ensures.new start) in
     let rest = (g.I.Inputs.view c.finish.new.inputs).left c.args.file in
     on_err c.from_residual-in_err-finish.result _ (subst (λ (lot : ℕ). ReadsNoFurtherThan (3 * (lot + PIECE)) limits start rest)
-    (c.in_ok-read_lots.ensures.lot ∙ c.in_ok-reader.ensures.new.size) (c.in_err-finish.ensures.left first start come))
+    (c.in_ok-read_lots.ensures.settled.lot ∙ c.in_ok-reader.ensures.new.size) (c.in_err-finish.ensures.left first start come))
 
 pub returns-in_err-finish-clause-read : goal.returns-in_err-finish-clause-read
 returns-in_err-finish-clause-read g c =
     let laws = g.met.I.Inputs g.world.𝓛 g.world.𝓜 g.world.𝓡 ((λ s x. x), (λ x. x), (λ x. x), λ x. x) in
     read_then g.I.Inputs.reads g.I.Inputs.view c.args.file laws.reads_then c.args.inputs.now c.read_lots.new.inputs c.finish.new.inputs
-    c.read_lots.ensures.read c.finish.ensures.read
+    c.read_lots.ensures.reads.read c.finish.ensures.reads.read
 
 pub returns-clause-ok : goal.returns-clause-ok
 returns-clause-ok g c =
@@ -67,4 +67,4 @@ pub returns-clause-read : goal.returns-clause-read
 returns-clause-read g c =
     let laws = g.met.I.Inputs g.world.𝓛 g.world.𝓜 g.world.𝓡 ((λ s x. x), (λ x. x), (λ x. x), λ x. x) in
     read_then g.I.Inputs.reads g.I.Inputs.view c.args.file laws.reads_then c.args.inputs.now c.read_lots.new.inputs c.finish.new.inputs
-    c.read_lots.ensures.read c.finish.ensures.read
+    c.read_lots.ensures.reads.read c.finish.ensures.reads.read

@@ -1,4 +1,4 @@
-use Rattle.std.proofs.Common.{length, ap, arith}
+use Rattle.std.proofs.Common.{rules, length, ap, arith}
 use Rattle.std.proofs.lemmas.Grind.{common_steps}
 use Rattle.std.specs.Vec.{with_items}
 use Rattle.object_fold.specs.Ahead.{most_of_lot}
@@ -6,27 +6,32 @@ use Rattle.object_fold.proofs.LotLaws.{less_left, moves_behind, moves_more}
 use Rattle.object_fold.proofs.Pieces.{read_again}
 use Rattle.object_fold.proofs.ahead.Ahead.fill.Goals as goal
 
-pub returns-in_err-self-clause-left : goal.returns-in_err-self-clause-left
-returns-in_err-self-clause-left g c =
+pub returns-in_err-self : goal.returns-in_err-self
+returns-in_err-self g c =
+    let laws = g.met.I.Inputs g.world.𝓛 g.world.𝓜 g.world.𝓡 ((λ s x. x), (λ x. x), (λ x. x), λ x. x) in
     let start = (g.I.Inputs.view c.args.inputs.now).left c.args.file in
     let left = (g.I.Inputs.view c.loop-self.inputs).left c.args.file in
     let rest = (g.I.Inputs.view c.keep_read.new.inputs).left c.args.file in
-    moves_behind c.args.self.now c.loop-self.self (most_of_lot c.args.self.now) (length c.deref_mut.result.now) start left rest
-    (omega (
-      arith,
-      c.loop-self.invariant.lot,
-      c.if-len-self.true,
-      c.len.ensures,
-      ap length c.deref_mut.ensures.value,
-      c.loop-self.invariant.room.room,
-    ))
-    c.loop-self.invariant.moves c.in_err-self.ensures.left
-
-pub returns-in_err-self-clause-read : goal.returns-in_err-self-clause-read
-returns-in_err-self-clause-read g c =
-    let laws = g.met.I.Inputs g.world.𝓛 g.world.𝓜 g.world.𝓡 ((λ s x. x), (λ x. x), (λ x. x), λ x. x) in
-    read_again g.I.Inputs.reads g.I.Inputs.view c.args.file laws.reads_then c.args.inputs.now c.loop-self.inputs c.keep_read.new.inputs
-    c.loop-self.invariant.alone c.keep_read.ensures.read
+    record {
+      ahead = record {
+        filled = search rules;
+        left = moves_behind c.args.self.now c.loop-self.self (most_of_lot c.args.self.now) (length c.deref_mut.result.now) start left rest
+            (omega (
+              arith,
+              c.loop-self.invariant.lot,
+              c.if-len-self.true,
+              c.len.ensures,
+              ap length c.deref_mut.ensures.value,
+              c.loop-self.invariant.room.room,
+            ))
+            c.loop-self.invariant.moves c.in_err-self.ensures.left;
+        reads = record {
+          read = read_again g.I.Inputs.reads g.I.Inputs.view c.args.file laws.reads_then c.args.inputs.now c.loop-self.inputs
+              c.keep_read.new.inputs c.loop-self.invariant.alone c.keep_read.ensures.read;
+          stopped = search rules;
+        };
+      };
+    }
 
 pub loop-self-smaller : goal.loop-self-smaller
 loop-self-smaller g c =

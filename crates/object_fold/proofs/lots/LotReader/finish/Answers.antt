@@ -1,4 +1,4 @@
-use Rattle.std.proofs.Common.{◌≡◌, ◌++◌, List, ℕ, Option, length, ap, subst, arith}
+use Rattle.std.proofs.Common.{rules, ◌≡◌, ◌++◌, List, ℕ, Option, length, ap, subst, arith}
 use Rattle.std.proofs.lemmas.Grind.{common_steps}
 use Rattle.object_fold.specs.declared.scan.TheConstants.{PIECE}
 use Rattle.object_fold.specs.Keeps.{kept_all}
@@ -16,6 +16,14 @@ returns-in_err-take-clause-left g c =
     lots_stop g.K.Keeper.after c.args.limits.now first c.args.self.waiting.passed c.args.keeper.now c.args.self.ahead.kept.items (most_kept c.args.self) start ((g.I.Inputs.view c.args.inputs.now).left c.args.file) has.lots
     c.requires.settled.few)
 
+pub returns-in_err-take-clause-reads : goal.returns-in_err-take-clause-reads
+returns-in_err-take-clause-reads g c =
+    let laws = g.met.I.Inputs g.world.𝓛 g.world.𝓜 g.world.𝓡 ((λ s x. x), (λ x. x), (λ x. x), λ x. x) in
+    record {
+      read = read_never g.I.Inputs.reads g.I.Inputs.view c.args.file laws.reads_none c.args.inputs.now;
+      stopped = search rules;
+    }
+
 -- the end of the file
 
 pub returns-in_err-finish-clause-left : goal.returns-in_err-finish-clause-left
@@ -23,6 +31,14 @@ returns-in_err-finish-clause-left g c =
     on_err c.from_residual-in_err-finish.result _ (λ first start has.
     lots_stop g.K.Keeper.after c.args.limits.now first c.args.self.waiting.passed c.args.keeper.now c.args.self.ahead.kept.items (most_kept c.args.self) start ((g.I.Inputs.view c.args.inputs.now).left c.args.file) has.lots
     c.requires.settled.few)
+
+pub returns-in_err-finish-clause-reads : goal.returns-in_err-finish-clause-reads
+returns-in_err-finish-clause-reads g c =
+    let laws = g.met.I.Inputs g.world.𝓛 g.world.𝓜 g.world.𝓡 ((λ s x. x), (λ x. x), (λ x. x), λ x. x) in
+    record {
+      read = read_never g.I.Inputs.reads g.I.Inputs.view c.args.file laws.reads_none c.args.inputs.now;
+      stopped = search rules;
+    }
 
 pub returns-then-not-more-clause-ok : goal.returns-then-not-more-clause-ok
 returns-then-not-more-clause-ok g c = λ first start come.
@@ -69,11 +85,14 @@ returns-in_err-read_on-clause-left g c =
     (reads_within (length c.deref_mut.result.now) PIECE left rest
     (omega (arith, ap length c.deref_mut.ensures.value, c.loop-progress.invariant.room)) c.in_err-read_on.ensures.left)))
 
-pub returns-in_err-read_on-clause-read : goal.returns-in_err-read_on-clause-read
-returns-in_err-read_on-clause-read g c =
+pub returns-in_err-read_on-clause-reads : goal.returns-in_err-read_on-clause-reads
+returns-in_err-read_on-clause-reads g c =
     let laws = g.met.I.Inputs g.world.𝓛 g.world.𝓜 g.world.𝓡 ((λ s x. x), (λ x. x), (λ x. x), λ x. x) in
-    read_again g.I.Inputs.reads g.I.Inputs.view c.args.file laws.reads_then c.args.inputs.now c.loop-progress.inputs c.read_on.new.inputs
-    c.loop-progress.invariant.alone c.read_on.ensures.read
+    record {
+      read = read_again g.I.Inputs.reads g.I.Inputs.view c.args.file laws.reads_then c.args.inputs.now c.loop-progress.inputs
+          c.read_on.new.inputs c.loop-progress.invariant.alone c.read_on.ensures.read;
+      stopped = search rules;
+    }
 
 pub loop-progress-preserved : goal.loop-progress-preserved
 loop-progress-preserved g c =
@@ -104,11 +123,14 @@ returns-in_err-finish-2-clause-left g c =
     (read_more g.K.Keeper.after c.args.limits.now first c.loop-progress.progress c.loop-progress.keeper c.read_on.new.progress c.read_on.new.keeper
     start left rest (c.loop-progress.invariant.read first start has.lots) c.in_ok-read_on.ensures.piece) (reads_nothing PIECE rest)))
 
-pub returns-in_err-finish-2-clause-read : goal.returns-in_err-finish-2-clause-read
-returns-in_err-finish-2-clause-read g c =
+pub returns-in_err-finish-2-clause-reads : goal.returns-in_err-finish-2-clause-reads
+returns-in_err-finish-2-clause-reads g c =
     let laws = g.met.I.Inputs g.world.𝓛 g.world.𝓜 g.world.𝓡 ((λ s x. x), (λ x. x), (λ x. x), λ x. x) in
-    read_again g.I.Inputs.reads g.I.Inputs.view c.args.file laws.reads_then c.args.inputs.now c.loop-progress.inputs c.read_on.new.inputs
-    c.loop-progress.invariant.alone c.read_on.ensures.read
+    record {
+      read = read_again g.I.Inputs.reads g.I.Inputs.view c.args.file laws.reads_then c.args.inputs.now c.loop-progress.inputs
+          c.read_on.new.inputs c.loop-progress.invariant.alone c.read_on.ensures.read;
+      stopped = search rules;
+    }
 
 pub returns-clause-ok : goal.returns-clause-ok
 returns-clause-ok g c = λ first start come.
@@ -121,8 +143,11 @@ returns-clause-ok g c = λ first start come.
     (read_more g.K.Keeper.after c.args.limits.now first c.loop-progress.progress c.loop-progress.keeper c.read_on.new.progress c.read_on.new.keeper
     start left rest (c.loop-progress.invariant.read first start come.lots) c.in_ok-read_on.ensures.piece)
 
-pub returns-clause-read : goal.returns-clause-read
-returns-clause-read g c =
+pub returns-clause-reads : goal.returns-clause-reads
+returns-clause-reads g c =
     let laws = g.met.I.Inputs g.world.𝓛 g.world.𝓜 g.world.𝓡 ((λ s x. x), (λ x. x), (λ x. x), λ x. x) in
-    read_again g.I.Inputs.reads g.I.Inputs.view c.args.file laws.reads_then c.args.inputs.now c.loop-progress.inputs c.read_on.new.inputs
-    c.loop-progress.invariant.alone c.read_on.ensures.read
+    record {
+      read = read_again g.I.Inputs.reads g.I.Inputs.view c.args.file laws.reads_then c.args.inputs.now c.loop-progress.inputs
+          c.read_on.new.inputs c.loop-progress.invariant.alone c.read_on.ensures.read;
+      stopped = search rules;
+    }

@@ -19,7 +19,7 @@ returns-in_err-lot-clause-left g c =
     on_err c.from_residual.result _ (λ first start has.
     lots_stop g.K.Keeper.after c.args.limits.now first reader.waiting.passed c.args.keeper.now (waits ++ kept) (most_kept reader) start
     ((g.I.Inputs.view c.args.inputs.now).left c.args.file) has.lots
-    (omega (arith, length-append waits kept, c.requires.reading.few, c.requires.next)))
+    (omega (arith, length-append waits kept, c.requires.ready.reading.few, c.requires.ready.next)))
 
 -- a lot was read, or was not, and more was read ahead
 
@@ -32,8 +32,8 @@ returns-in_err-used-clause-left g c =
     let rest = (g.I.Inputs.view c.read_beside.new.inputs).left c.args.file in
     on_err c.from_residual-in_err-used.result _ (λ first start has.
     cut_stop g.K.Keeper.after c.args.limits.now first reader.waiting.passed c.args.keeper.now reader.waiting.bytes.items lot reader.ahead.kept.items
-    c.cut.new.self (most_kept reader) (most_of_lot c.cut.new.self) start left rest has.lots cut c.read_beside.ensures.left
-    (omega (arith, ap (λ (own : Ahead). own.lot) c.in_ok-lot.ensures.same, c.requires.reading.few, c.requires.next)))
+    c.cut.new.self (most_kept reader) (most_of_lot c.cut.new.self) start left rest has.lots cut c.read_beside.ensures.ahead.left
+    (omega (arith, ap (λ (own : Ahead). own.lot) c.in_ok-lot.ensures.same, c.requires.ready.reading.few, c.requires.ready.next)))
 
 pub returns-in_err-drop_front-clause-left : goal.returns-in_err-drop_front-clause-left
 returns-in_err-drop_front-clause-left g c =
@@ -44,8 +44,8 @@ returns-in_err-drop_front-clause-left g c =
     let rest = (g.I.Inputs.view c.read_beside.new.inputs).left c.args.file in
     on_err c.from_residual-in_err-drop_front.result _ (λ first start has.
     cut_stop g.K.Keeper.after c.args.limits.now first reader.waiting.passed c.args.keeper.now reader.waiting.bytes.items lot reader.ahead.kept.items
-    c.cut.new.self (most_kept reader) (most_of_lot c.cut.new.self) start left rest has.lots cut c.read_beside.ensures.left
-    (omega (arith, ap (λ (own : Ahead). own.lot) c.in_ok-lot.ensures.same, c.requires.reading.few, c.requires.next)))
+    c.cut.new.self (most_kept reader) (most_of_lot c.cut.new.self) start left rest has.lots cut c.read_beside.ensures.ahead.left
+    (omega (arith, ap (λ (own : Ahead). own.lot) c.in_ok-lot.ensures.same, c.requires.ready.reading.few, c.requires.ready.next)))
 
 pub returns-in_err-rest-clause-left : goal.returns-in_err-rest-clause-left
 returns-in_err-rest-clause-left g c =
@@ -56,8 +56,8 @@ returns-in_err-rest-clause-left g c =
     let rest = (g.I.Inputs.view c.read_beside.new.inputs).left c.args.file in
     on_err c.from_residual-in_err-rest.result _ (λ first start has.
     cut_stop g.K.Keeper.after c.args.limits.now first reader.waiting.passed c.args.keeper.now reader.waiting.bytes.items lot reader.ahead.kept.items
-    c.cut.new.self (most_kept reader) (most_of_lot c.cut.new.self) start left rest has.lots cut c.read_beside.ensures.left
-    (omega (arith, ap (λ (own : Ahead). own.lot) c.in_ok-lot.ensures.same, c.requires.reading.few, c.requires.next)))
+    c.cut.new.self (most_kept reader) (most_of_lot c.cut.new.self) start left rest has.lots cut c.read_beside.ensures.ahead.left
+    (omega (arith, ap (λ (own : Ahead). own.lot) c.in_ok-lot.ensures.same, c.requires.ready.reading.few, c.requires.ready.next)))
 
 pub returns-in_err-put_back-clause-left : goal.returns-in_err-put_back-clause-left
 returns-in_err-put_back-clause-left g c =
@@ -68,8 +68,8 @@ returns-in_err-put_back-clause-left g c =
     let rest = (g.I.Inputs.view c.read_beside.new.inputs).left c.args.file in
     on_err c.from_residual-in_err-put_back.result _ (λ first start has.
     cut_stop g.K.Keeper.after c.args.limits.now first reader.waiting.passed c.args.keeper.now reader.waiting.bytes.items lot reader.ahead.kept.items
-    c.cut.new.self (most_kept reader) (most_of_lot c.cut.new.self) start left rest has.lots cut c.read_beside.ensures.left
-    (omega (arith, ap (λ (own : Ahead). own.lot) c.in_ok-lot.ensures.same, c.requires.reading.few, c.requires.next)))
+    c.cut.new.self (most_kept reader) (most_of_lot c.cut.new.self) start left rest has.lots cut c.read_beside.ensures.ahead.left
+    (omega (arith, ap (λ (own : Ahead). own.lot) c.in_ok-lot.ensures.same, c.requires.ready.reading.few, c.requires.ready.next)))
 
 pub returns-then-is_empty-clause-lots : goal.returns-then-is_empty-clause-lots
 returns-then-is_empty-clause-lots g c = λ first start has.
@@ -87,7 +87,7 @@ returns-then-is_empty-clause-lots g c = λ first start has.
     turned g.K.Keeper.after c.args.limits.now first reader.waiting.passed c.args.keeper.now c.read_beside.new.waiting.passed
     c.put_aside.new.self.passed c.read_beside.new.keeper reader.waiting.bytes.items lot reader.ahead.kept.items c.put_aside.new.self.bytes.items
     c.in_ok-rest.rest.items reader.ahead.more c.cut.new.self c.read_beside.new.ahead c.read_beside.new.ahead used start left rest has
-    (ap (λ (own : Ahead). own.more) c.in_ok-lot.ensures.same) cut c.in_ok-used.ensures.filled.moves given.lines all c.in_ok-rest.ensures.passed
+    (ap (λ (own : Ahead). own.more) c.in_ok-lot.ensures.same) cut c.in_ok-used.ensures.ahead.filled.moves given.lines all c.in_ok-rest.ensures.passed
     refl (ap (λ own. own ++ c.read_beside.new.ahead.kept.items) (sym none))
 
 pub returns-clause-lots : goal.returns-clause-lots
@@ -105,7 +105,7 @@ returns-clause-lots g c = λ first start has.
     turned g.K.Keeper.after c.args.limits.now first reader.waiting.passed c.args.keeper.now c.read_beside.new.waiting.passed
     c.put_aside.new.self.passed c.read_beside.new.keeper reader.waiting.bytes.items lot reader.ahead.kept.items c.put_aside.new.self.bytes.items
     c.in_ok-rest.rest.items reader.ahead.more c.cut.new.self c.read_beside.new.ahead c.put_back.new.self used start left rest has
-    (ap (λ (own : Ahead). own.more) c.in_ok-lot.ensures.same) cut c.in_ok-used.ensures.filled.moves given.lines all c.in_ok-rest.ensures.passed
+    (ap (λ (own : Ahead). own.more) c.in_ok-lot.ensures.same) cut c.in_ok-used.ensures.ahead.filled.moves given.lines all c.in_ok-rest.ensures.passed
     (ap (λ (own : Ahead). own.more) c.in_ok-put_back.ensures.same) c.in_ok-put_back.ensures.kept
 
 pub put_aside-requires-clause-few : goal.put_aside-requires-clause-few
@@ -122,16 +122,15 @@ returns-then-is_empty-clause-reading g c =
     let shares = c.in_ok-used.shares.items in
     let cut : lot ++ c.cut.new.self.kept.items ≡ reader.ahead.kept.items = search rules in
     let given = c.in_ok-used.ensures.given in
-    let filled = c.in_ok-used.ensures.filled in
+    let filled = c.in_ok-used.ensures.ahead.filled in
     let size = ap (λ (own : Ahead). own.lot) c.in_ok-lot.ensures.same in
     let front = ap length c.in_ok-drop_front.ensures.ok in
     let left = length-drop c.in_ok-used.used c.read_beside.new.waiting.bytes.items in
     let before = ap length given.bytes in
     let most = most_of_lot reader.ahead in
-    let waits = c.in_ok-rest.ensures.few most (omega (arith, front, left, before, c.requires.reading.few))
-    (omega (arith, ap length cut, length-append lot c.cut.new.self.kept.items, c.requires.next)) in
+    let waits = c.in_ok-rest.ensures.few most (omega (arith, front, left, before, c.requires.ready.reading.few))
+    (omega (arith, ap length cut, length-append lot c.cut.new.self.kept.items, c.requires.ready.next)) in
     record {
-      workers = c.requires.reading.workers;
       room = filled.room;
       goes = subst (λ (own : Passed). GoesOn g.K.Keeper.takes limits own c.read_beside.new.keeper) (sym c.in_ok-rest.ensures.passed) given.goes;
       shares = c.in_ok-rest.ensures.shares limits
@@ -148,16 +147,15 @@ returns-clause-reading g c =
     let shares = c.in_ok-used.shares.items in
     let cut : lot ++ c.cut.new.self.kept.items ≡ reader.ahead.kept.items = search rules in
     let given = c.in_ok-used.ensures.given in
-    let filled = c.in_ok-used.ensures.filled in
+    let filled = c.in_ok-used.ensures.ahead.filled in
     let size = ap (λ (own : Ahead). own.lot) c.in_ok-lot.ensures.same in
     let front = ap length c.in_ok-drop_front.ensures.ok in
     let left = length-drop c.in_ok-used.used c.read_beside.new.waiting.bytes.items in
     let before = ap length given.bytes in
     let most = most_of_lot reader.ahead in
-    let waits = c.in_ok-rest.ensures.few most (omega (arith, front, left, before, c.requires.reading.few))
-    (omega (arith, ap length cut, length-append lot c.cut.new.self.kept.items, c.requires.next)) in
+    let waits = c.in_ok-rest.ensures.few most (omega (arith, front, left, before, c.requires.ready.reading.few))
+    (omega (arith, ap length cut, length-append lot c.cut.new.self.kept.items, c.requires.ready.next)) in
     record {
-      workers = c.requires.reading.workers;
       room = subst (λ (own : Ahead). HasRoom own) (sym c.in_ok-put_back.ensures.same) (record { some = filled.room.some; room = filled.room.room });
       goes = subst (λ (own : Passed). GoesOn g.K.Keeper.takes limits own c.read_beside.new.keeper) (sym c.in_ok-rest.ensures.passed) given.goes;
       shares = c.in_ok-rest.ensures.shares limits
@@ -174,6 +172,6 @@ returns-clause-reading g c =
         c.in_ok-rest.ensures.less,
         ap length cut,
         length-append lot c.cut.new.self.kept.items,
-        c.requires.next,
+        c.requires.ready.next,
       );
     }

@@ -2,7 +2,7 @@ use Rattle.object_fold.specs.Lots.{ReadsNoFurtherThan}
 use Rattle.object_fold.proofs.LotLaws.{read_then}
 use Rattle.object_fold.proofs.Pieces.{on_err}
 use Rattle.object_fold.proofs.lots.LotReader.take_lots.Goals as goal
-use Rattle.std.proofs.Common.{◌+◌, ◌*◌, ◌∙◌, ℕ, subst}
+use Rattle.std.proofs.Common.{rules, ◌+◌, ◌*◌, ◌∙◌, ℕ, subst}
 use Rattle.object_fold.specs.declared.scan.TheConstants.{PIECE}
 
 pub returns-in_err-take_lot-clause-left : goal.returns-in_err-take_lot-clause-left
@@ -12,26 +12,31 @@ returns-in_err-take_lot-clause-left g c =
     subst (λ (lot : ℕ). ReadsNoFurtherThan (3 * (lot + PIECE)) c.args.limits.now start rest) c.loop.invariant.lot
     (c.in_err-take_lot.ensures.left first start (c.loop.invariant.lots first start has)))
 
-pub returns-in_err-take_lot-clause-read : goal.returns-in_err-take_lot-clause-read
-returns-in_err-take_lot-clause-read g c =
+pub returns-in_err-take_lot-clause-reads : goal.returns-in_err-take_lot-clause-reads
+returns-in_err-take_lot-clause-reads g c =
     let laws = g.met.I.Inputs g.world.𝓛 g.world.𝓜 g.world.𝓡 ((λ s x. x), (λ x. x), (λ x. x), λ x. x) in
-    read_then g.I.Inputs.reads g.I.Inputs.view c.args.file laws.reads_then c.args.inputs.now c.loop.inputs c.take_lot.new.inputs
-    c.loop.invariant.alone c.take_lot.ensures.read
+    record {
+      read = read_then g.I.Inputs.reads g.I.Inputs.view c.args.file laws.reads_then c.args.inputs.now c.loop.inputs c.take_lot.new.inputs
+          c.loop.invariant.alone c.take_lot.ensures.reads.read;
+      stopped = search rules;
+    }
 
-pub returns-then-not-branch-clause-read : goal.returns-then-not-branch-clause-read
-returns-then-not-branch-clause-read g c =
+pub returns-then-not-branch-clause-reads : goal.returns-then-not-branch-clause-reads
+returns-then-not-branch-clause-reads g c =
     let laws = g.met.I.Inputs g.world.𝓛 g.world.𝓜 g.world.𝓡 ((λ s x. x), (λ x. x), (λ x. x), λ x. x) in
-    read_then g.I.Inputs.reads g.I.Inputs.view c.args.file laws.reads_then c.args.inputs.now c.loop.inputs c.take_lot.new.inputs
-    c.loop.invariant.alone c.take_lot.ensures.read
+    record {
+      read = read_then g.I.Inputs.reads g.I.Inputs.view c.args.file laws.reads_then c.args.inputs.now c.loop.inputs c.take_lot.new.inputs
+          c.loop.invariant.alone c.take_lot.ensures.reads.read;
+      stopped = search rules;
+    }
 
 pub loop-preserved : goal.loop-preserved
 loop-preserved g c =
     let laws = g.met.I.Inputs g.world.𝓛 g.world.𝓜 g.world.𝓡 ((λ s x. x), (λ x. x), (λ x. x), λ x. x) in
     record {
-      reading = c.in_ok-take_lot.ensures.reading;
-      next = c.in_ok-take_lot.ensures.next c.if-not-branch.false;
+      ready = record { reading = c.in_ok-take_lot.ensures.reading; next = c.in_ok-take_lot.ensures.next c.if-not-branch.false };
       lot = c.in_ok-take_lot.ensures.lot ∙ c.loop.invariant.lot;
       lots = λ first start has. c.in_ok-take_lot.ensures.lots first start (c.loop.invariant.lots first start has);
       alone = read_then g.I.Inputs.reads g.I.Inputs.view c.args.file laws.reads_then c.args.inputs.now c.loop.inputs c.take_lot.new.inputs
-          c.loop.invariant.alone c.take_lot.ensures.read;
+          c.loop.invariant.alone c.take_lot.ensures.reads.read;
     }

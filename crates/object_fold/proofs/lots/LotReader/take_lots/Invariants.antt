@@ -1,14 +1,12 @@
-use Rattle.std.proofs.Common.{◌≡◌, ◌≤◌, List, ℕ, Option, length}
-use Rattle.object_fold.specs.Ahead.{most_of_lot}
-use Rattle.object_fold.specs.Lots.{IsReading, IsThere}
+use Rattle.std.proofs.Common.{◌≡◌, List, ℕ, Option}
+use Rattle.object_fold.specs.Lots.{IsThere, MayTakeLot}
 use Rattle.object_fold.specs.Reading.{ReadsNoOther}
 use Rattle.object_fold.proofs.lots.LotReader.take_lots.Given as goal
 
 -- so far was read since the start
 abbrev pub invariant-loop : goal.invariant-loop
 invariant-loop g l = record {
-  reading : IsReading g.K.Keeper.takes l.limits l.self l.keeper;
-  next : length l.self.ahead.kept.items ≤ most_of_lot l.self.ahead;
+  ready : MayTakeLot g.K.Keeper.takes l.limits l.self l.keeper;
   lot : l.self.ahead.lot ≡ l.fn.self.ahead.lot;
   lots : (first : _) (start : Option (List ℕ)) → IsThere g.K.Keeper.after l.limits first l.fn.self l.fn.keeper start ((g.I.Inputs.view l.fn.inputs).left l.file)
       → IsThere g.K.Keeper.after l.limits first l.self l.keeper start ((g.I.Inputs.view l.inputs).left l.file);

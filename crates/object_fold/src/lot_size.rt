@@ -1,0 +1,9 @@
+//! How long a lot of a file is.
+ghost use Rattle.std.specs.Prelude.{◌<◌};
+
+/// How many bytes a lot has, but for the last one: some.
+#[derive(Clone, Copy)]
+pub struct LotSize {
+    pub bytes: usize,
+    ghost some: { 0 < bytes },
+}
