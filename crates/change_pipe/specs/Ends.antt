@@ -1,5 +1,5 @@
 -- A pipe and its two ends as contracts see them.
-use Rattle.std.specs.Prelude.{ℕ, List, refl}
+use Rattle.std.specs.Prelude.{◌≡◌, ℕ, List, [], refl}
 use Rattle.std.specs.Coded.{Coded, code_by, coded×, coded_list}
 use Rattle.atomic_table.specs.Seated.{TableId, table_id_coded}
 use Rattle.change_pipe.specs.declared.parcel.Parcel.{Parcel}
@@ -23,3 +23,11 @@ end_code =
 
 abbrev pub end_view : TableId → List Parcel → EndView
 end_view home list = record { home = home; list = list }
+
+-- this is an end of the pipe
+abbrev pub IsEndOf : PipeView → EndView → Type 0
+IsEndOf pipe end = end.home ≡ pipe.home
+
+-- and nothing went through it yet
+abbrev pub IsUnused : PipeView → EndView → Type 0
+IsUnused pipe end = end ≡ end_view pipe.home []

@@ -4,6 +4,7 @@ use Rattle.std.specs.List.{AllByRecursion}
 use Rattle.osm_base.specs.declared.bounds.limits.LimitNumbers.{LimitNumbers}
 use Rattle.outside.specs.Causes.{Rose}
 use Rattle.outside.specs.Inputs.{FilesView}
+use Rattle.change_pipe.specs.declared.files.ChangeFiles.{ChangeFiles}
 use Rattle.change_pipe.specs.declared.parcel.Parcel.{Parcel}
 use Rattle.change_pipe.specs.Parcels.{AreParcels, HasFailed, IsAtEnd, IsWhole}
 
@@ -34,3 +35,10 @@ pub record ReadsAmong (first end : ℕ) (asks : List ℕ → Type 0) (old new : 
 -- there is one of each of so many files, unless one was refused
 abbrev pub HasAll : (count : ℕ) → List Parcel → Type 0
 HasAll count parcels = AllByRecursion IsWhole parcels → length parcels ≡ count
+
+-- these files were read, up to the first that is refused; the parcels, of which so much is told where there are some, are theirs
+pub record ReadsFiles (limits : LimitNumbers) (files : ChangeFiles) (told : (List Parcel → Type 0) → Type 0) (asks : List ℕ → Type 0)
+    (old new : FilesView) : Type 0 where
+  pub parcels : told (AreRead limits files.first (files.first + files.count) old new)
+  pub all : told (HasAll files.count)
+  pub read : ReadsAmong files.first (files.first + files.count) asks old new

@@ -2,13 +2,14 @@
 ghost use Rattle.std.specs.Prelude.{◌≡◌, ◌<◌, ◌≤◌, ◌+◌, [], IfNone, IfOk, IfSome};
 ghost use Rattle.std.specs.Bool.{OnFalse};
 ghost use Rattle.change_pipe.specs.declared.pipe.TheConstants.{MAX_AHEAD};
-ghost use Rattle.change_pipe.specs.Ends.{end_view};
-ghost use Rattle.change_pipe.specs.Files.{AreRead, HasAll, ReadsAmong};
+ghost use Rattle.change_pipe.specs.Ends.{IsEndOf, IsUnused, end_view};
+ghost use Rattle.change_pipe.specs.Files.{AreRead, HasAll, ReadsAmong, ReadsFiles};
 
 use crate::files::ChangeFiles;
 use crate::parcel::{Parcel, is_whole, read_parcel};
 use crate::pipe::{Pipe, Taker, make_pipe};
 use crate::putting::put_some;
+use object_fold::Workers;
 use osm_base::{Limits, OutOfMemory};
 use outside::Inputs;
 use std::alloc::Global;
@@ -23,8 +24,8 @@ fn take_files<R: Wait>(
     pipe: &Pipe,
     taker: &mut Taker,
 ) -> Result<Vec<Parcel>, OutOfMemory>
-    requires ours { taker.old ≡ end_view pipe.now.home [] }
-    ensures ours { taker.new.home ≡ pipe.now.home }
+    requires unused { IsUnused pipe.now taker.old }
+    ensures ours { IsEndOf pipe.now taker.new }
     ensures taken { IfOk result (λ taken. taken.items ≡ taker.new.list) }
     ensures all { IfOk result (λ taken. HasAll count taken.items) }
 {
@@ -50,8 +51,8 @@ fn take_some<R: Wait>(
     pipe: &Pipe,
     taker: &mut Taker,
 ) -> Result<Option<Vec<Parcel>>, OutOfMemory>
-    requires ours { taker.old ≡ end_view pipe.now.home [] }
-    ensures ours { taker.new.home ≡ pipe.now.home }
+    requires unused { IsUnused pipe.now taker.old }
+    ensures ours { IsEndOf pipe.now taker.new }
     ensures taken { IfOk result (λ found. IfSome found (λ taken. taken.items ≡ taker.new.list)) }
     ensures all { IfOk result (λ found. IfSome found (λ taken. HasAll count taken.items)) }
 {
@@ -73,12 +74,10 @@ fn read_each<R: Threads + Sync, I: Inputs>(
     inputs: &mut I,
     files: ChangeFiles,
     limits: &Limits,
-    workers: u32,
+    workers: Workers,
 ) -> Result<Vec<Parcel>, OutOfMemory>
-    requires workers { 0 < workers }
-    ensures parcels { IfOk result (λ read. AreRead limits.now files.first (files.first + files.count) (I.view inputs.old) (I.view inputs.new) read.items) }
-    ensures all { IfOk result (λ read. HasAll files.count read.items) }
-    ensures read { ReadsAmong files.first (files.first + files.count) (λ asked. I.reads inputs.old asked inputs.new) (I.view inputs.old) (I.view inputs.new) }
+    ensures files { ReadsFiles limits.now files (λ Are. IfOk result (λ read. Are read.items)) (λ asked. I.reads inputs.old asked inputs.new)
+        (I.view inputs.old) (I.view inputs.new) }
 {
     let mut parcels = Vec::new(alloc);
     let end = files.first + files.count;
@@ -102,16 +101,13 @@ fn read_beside<R: Threads + Wait + Sync, I: Inputs>(
     inputs: &mut I,
     files: ChangeFiles,
     limits: &Limits,
-    workers: u32,
+    workers: Workers,
     ahead: usize,
 ) -> Result<Option<Vec<Parcel>>, OutOfMemory>
-    requires workers { 0 < workers }
     requires some { 1 ≤ ahead }
     requires few { ahead ≤ MAX_AHEAD }
-    ensures parcels { IfOk result (λ found. IfSome found (λ taken.
-        AreRead limits.now files.first (files.first + files.count) (I.view inputs.old) (I.view inputs.new) taken.items)) }
-    ensures all { IfOk result (λ found. IfSome found (λ taken. HasAll files.count taken.items)) }
-    ensures read { ReadsAmong files.first (files.first + files.count) (λ asked. I.reads inputs.old asked inputs.new) (I.view inputs.old) (I.view inputs.new) }
+    ensures files { ReadsFiles limits.now files (λ Are. IfOk result (λ found. IfSome found (λ taken. Are taken.items)))
+        (λ asked. I.reads inputs.old asked inputs.new) (I.view inputs.old) (I.view inputs.new) }
     ensures unread { IfOk result (λ found. IfNone found (inputs.new ≡ inputs.old)) }
 {
     let (pipe, mut putter, mut taker) = make_pipe(alloc, ahead)?;
@@ -119,13 +115,26 @@ fn read_beside<R: Threads + Wait + Sync, I: Inputs>(
     let (read, taken) = join_mut(
         rt,
         &mut || -> bool
-            requires { (putter ≡ end_view line.now.home []) × (0 < workers) }
+            requires { putter ≡ end_view line.now.home [] }
             ensures { (putter.exit.home ≡ line.entry.now.home)
                 × AreRead limits.entry.now files.first (files.first + files.count) (I.view inputs.entry.now) (I.view inputs.exit.now) putter.exit.list
                 × ReadsAmong files.first (files.first + files.count) (λ asked. I.reads inputs.entry.now asked inputs.exit.now)
                 (I.view inputs.entry.now) (I.view inputs.exit.now)
                 × OnFalse result (inputs.exit.now ≡ inputs.entry.now) }
-        { put_some(rt, alloc, inputs, files, limits, workers, line, &mut putter) },
+        {
+            // Taken whole, as its count alone need not be above 0.
+            let own = workers;
+            put_some(
+                rt,
+                alloc,
+                inputs,
+                files,
+                limits,
+                own.count,
+                line,
+                &mut putter,
+            )
+        },
         &mut || -> Result<Option<Vec<Parcel>>, OutOfMemory>
             requires { taker ≡ end_view line.now.home [] }
             ensures { (taker.exit.home ≡ line.entry.now.home)
@@ -158,6 +167,7 @@ pub fn read_ahead<R: Threads + Wait + Sync, I: Inputs>(
     ensures all { IfOk result (λ taken. HasAll files.count taken.items) }
     ensures read { ReadsAmong files.first (files.first + files.count) (λ asked. I.reads inputs.old asked inputs.new) (I.view inputs.old) (I.view inputs.new) }
 {
+    let workers = Workers { count: workers };
     match read_beside(rt, alloc, inputs, files, limits, workers, ahead) {
         Ok(Some(taken)) => Ok(taken),
         Ok(None) => read_each(rt, alloc, inputs, files, limits, workers),

@@ -1,9 +1,9 @@
 //! What a file of changes was read as.
-ghost use Rattle.std.specs.Prelude.{◌≡◌, ◌<◌, ◌↔◌, IsTrue};
+ghost use Rattle.std.specs.Prelude.{◌≡◌, ◌↔◌, IsTrue};
 ghost use Rattle.object_fold.specs.Reading.{ReadsNoOther};
 ghost use Rattle.change_pipe.specs.Parcels.{IsParcelOf, IsWhole};
 
-use object_fold::{Change, FileFault, read_parallel};
+use object_fold::{Change, FileFault, Workers, read_parallel};
 use osm_base::Limits;
 use outside::Inputs;
 use std::alloc::Global;
@@ -40,13 +40,12 @@ pub(crate) fn read_parcel<R: Threads + Sync, I: Inputs>(
     inputs: &mut I,
     file: u32,
     limits: &Limits,
-    workers: u32,
+    workers: Workers,
 ) -> Parcel
-    requires workers { 0 < workers }
     ensures parcel { IsParcelOf limits.now file (I.view inputs.old) (I.view inputs.new) result }
     ensures read { ReadsNoOther file (λ asked. I.reads inputs.old asked inputs.new) (I.view inputs.old) (I.view inputs.new) }
 {
-    match read_parallel(rt, alloc, inputs, file, limits, workers) {
+    match read_parallel(rt, alloc, inputs, file, limits, workers.count) {
         Ok(change) => Parcel {
             file,
             body: ParcelBody::Whole(change),

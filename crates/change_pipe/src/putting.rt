@@ -7,6 +7,7 @@ ghost use Rattle.change_pipe.specs.Files.{AreRead, HasAll, ReadsAmong};
 use crate::files::ChangeFiles;
 use crate::parcel::{is_whole, read_parcel};
 use crate::pipe::{Pipe, Putter};
+use object_fold::Workers;
 use osm_base::Limits;
 use outside::Inputs;
 use std::alloc::Global;
@@ -35,6 +36,7 @@ pub fn put_files<R: Threads + Wait + Sync, I: Inputs>(
     let end = files.first + files.count;
     let mut file = files.first;
     while file < end {
+        let workers = Workers { count: workers };
         let parcel = read_parcel(rt, alloc, inputs, file, limits, workers);
         let whole = is_whole(&parcel);
         if !pipe.put_when_room(rt, putter, parcel) {
