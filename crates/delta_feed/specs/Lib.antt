@@ -10,5 +10,6 @@ pub mod Blocks
 pub mod Stops
 pub mod Sound
 pub mod Feeding
+pub mod ReadsOn
 pub mod Written
 pub mod Writing

@@ -8,6 +8,7 @@ use Rattle.store_maps.specs.Rows.{columns_in}
 use Rattle.style_read.specs.Reading.{reading}
 use Rattle.style_read.specs.Style.{StyleOf}
 use Rattle.style_read.specs.declared.style.TableDef.{TableDef}
+use Rattle.delta_feed.specs.Line.{verb_of}
 use Rattle.delta_feed.specs.Stage.{is_next, style_for, tables_of}
 use Rattle.delta_feed.specs.declared.block.Block.{Block}
 use Rattle.delta_feed.specs.declared.block.Block.TheVariants as blocks
@@ -18,6 +19,7 @@ use Rattle.delta_feed.specs.declared.block.Stage.{Stage}
 use Rattle.delta_feed.specs.declared.block.Stage.TheVariants as stages
 use Rattle.delta_feed.specs.declared.line.FeedLine.{FeedLine}
 use Rattle.delta_feed.specs.declared.line.FeedLine.TheVariants as lines
+use Rattle.delta_feed.specs.declared.place.Verb.{Verb}
 use Rattle.delta_feed.specs.declared.turn.Turn.{Turn}
 use Rattle.delta_feed.specs.declared.turn.Turn.TheVariants as turns
 use Rattle.delta_feed.specs.declared.words.TheConstants.{LAST_VERSION}
@@ -98,3 +100,8 @@ IsSoundTurn base (turns.On stages.Between) = ⊥
 IsSoundTurn base (turns.On stage) = IsSoundStage base stage
 IsSoundTurn base (turns.Whole block) = IsSound base block
 IsSoundTurn base turns.NoBase = Unit {0}
+
+-- a line fits, and its first word is this one
+pub record IsLineOf (verb : Verb) (read : FeedLine) : Type 0 where
+  pub fits : IsFitLine read
+  pub says : verb_of read ≡ verb

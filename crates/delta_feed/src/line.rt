@@ -3,7 +3,7 @@ ghost use Rattle.std.specs.Prelude.{◌≡◌, ◌≤◌, [], true, IfOk};
 ghost use Rattle.delta_feed.specs.Place.{may_stand};
 ghost use Rattle.delta_feed.specs.declared.place.Verb.TheVariants as verbs;
 ghost use Rattle.delta_feed.specs.Line.{behind, bytes_by, del_by, line_in, set_by, spot_by, standing, verb_in, verb_of, version_by};
-ghost use Rattle.delta_feed.specs.Sound.{IsFitLine};
+ghost use Rattle.delta_feed.specs.Sound.{IsFitLine, IsLineOf};
 ghost use Rattle.delta_feed.specs.Why.{Gives};
 ghost use Rattle.delta_feed.specs.Words.{words_of};
 
@@ -88,8 +88,7 @@ fn verb_in(word: &[u8]) -> Result<Verb, FeedWhy>
 #[tactic(auto, unfolding(crate::specs::Line::behind, crate::specs::Line::opened_by, crate::specs::Line::spelled_by, crate::specs::Line::set_by, crate::specs::Line::del_by, crate::specs::Words::last_word, crate::specs::Words::next_word))]
 fn alone(verb: Verb) -> Result<FeedLine, FeedWhy>
     ensures line { result ≡ behind verb [] }
-    ensures fits { IfOk result IsFitLine }
-    ensures same { IfOk result (λ read. verb_of read ≡ verb) }
+    ensures says { IfOk result (IsLineOf verb) }
 {
     match verb {
         Verb::End => Ok(FeedLine::End),
@@ -101,8 +100,7 @@ fn alone(verb: Verb) -> Result<FeedLine, FeedWhy>
 #[tactic(auto, unfolding(crate::specs::Line::behind, crate::specs::Line::opened_by, crate::specs::Line::spelled_by))]
 fn behind(alloc: Global, verb: Verb, words: &[u8]) -> Result<FeedLine, LineRefused>
     ensures line { Gives result (behind verb (words_of words.now)) }
-    ensures fits { IfOk result IsFitLine }
-    ensures same { IfOk result (λ read. verb_of read ≡ verb) }
+    ensures says { IfOk result (IsLineOf verb) }
 {
     match verb {
         Verb::Full => Ok(FeedLine::Full(version_in(words)?)),
@@ -153,8 +151,7 @@ fn spot_in(table: &[u8], letter: &[u8], id: &[u8]) -> Result<Spot, FeedWhy>
 #[tactic(auto, unfolding(crate::specs::Hexes::hex_in, crate::specs::Line::set_by))]
 fn set_by(alloc: Global, words: &[u8]) -> Result<FeedLine, LineRefused>
     ensures line { Gives result (set_by (words_of words.now)) }
-    ensures fits { IfOk result IsFitLine }
-    ensures same { IfOk result (λ read. verb_of read ≡ verbs.Set) }
+    ensures says { IfOk result (IsLineOf verbs.Set) }
 {
     let (table, rest) = next_word(words)?;
     let (letter, rest) = next_word(rest)?;
@@ -173,8 +170,7 @@ fn set_by(alloc: Global, words: &[u8]) -> Result<FeedLine, LineRefused>
 #[tactic(auto, unfolding(crate::specs::Line::del_by))]
 fn del_by(words: &[u8]) -> Result<FeedLine, FeedWhy>
     ensures line { result ≡ del_by (words_of words.now) }
-    ensures fits { IfOk result IsFitLine }
-    ensures same { IfOk result (λ read. verb_of read ≡ verbs.Del) }
+    ensures says { IfOk result (IsLineOf verbs.Del) }
 {
     let (table, rest) = next_word(words)?;
     let (letter, rest) = next_word(rest)?;

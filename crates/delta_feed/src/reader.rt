@@ -14,7 +14,8 @@ ghost use Rattle.delta_feed.specs.Place.{may_stand};
 ghost use Rattle.delta_feed.specs.Stage.{place_of};
 ghost use Rattle.delta_feed.specs.Turn.{IsTurn};
 ghost use Rattle.delta_feed.specs.Sound.{IsFitLine, IsSound, IsSoundStage, IsSoundTurn};
-ghost use Rattle.delta_feed.specs.Stops.{Stops, StopsAt, StopsOutside};
+ghost use Rattle.delta_feed.specs.ReadsOn.{ReadsOn};
+ghost use Rattle.delta_feed.specs.Stops.{Stops, StopsAt};
 
 use crate::ahead::Ahead;
 use crate::block::Stage;
@@ -94,15 +95,13 @@ impl FeedReader {
         requires going { IsGoing self.old }
         requires sound { IsSoundStage (option_copied base) stage }
         ensures going { OnOk result (IsGoing self.new) }
-        ensures same { IsSameReader self.old self.new }
         ensures turn { IfOk result (λ turn. BothKnown ((I.view inputs.old).left self.old.file) ((I.view inputs.new).left self.old.file)
             (λ before after. Leads (option_copied base.entry) stage self.old self.new (lines_left self.old before) (lines_left self.new after) turn)) }
         ensures sound { IfOk result (λ turn. IfSome turn (IsSoundTurn (option_copied base.entry))) }
         ensures number { IfOk result (λ turn. IfSome turn (λ _. (self.old.lines.number < self.new.lines.number) × (self.new.lines.number ≤ self.old.limits.lines))) }
-        ensures stopped { IfErr result (Stops (λ fault. IfSome ((I.view inputs.old).left self.old.file)
+        ensures reads { ReadsOn result (λ fault. IfSome ((I.view inputs.old).left self.old.file)
             (λ before. Comes self.old.limits (option_copied base.entry) stage self.old.lines.number (lines_left self.old before) (refused fault)))
-            (Rose (I.view inputs.old).faults (I.view inputs.new).faults)) }
-        ensures read { ReadsNoOther self.old.file (λ asked. I.reads inputs.old asked inputs.new) (I.view inputs.old) (I.view inputs.new) }
+            (λ asked. I.reads inputs.old asked inputs.new) self.old self.new (I.view inputs.old) (I.view inputs.new) }
     {
         match self.next_line(alloc, inputs) {
             Ok(true) => {}
@@ -210,12 +209,11 @@ impl FeedReader {
     ) -> Result<bool, FeedFault>
         requires going { IsGoing self.old }
         ensures going { IsGoing self.new }
-        ensures same { IsSameReader self.old self.new }
         ensures lines { self.new.lines ≡ self.old.lines }
         ensures value { IfOk result (λ value. BothKnown ((I.view inputs.old).left self.old.file) ((I.view inputs.new).left self.old.file)
             (λ before after. (lines_left self.old before ≡ lines_left self.new after) × (value ≡ goes_on read.now (lines_left self.new after)))) }
-        ensures stopped { IfErr result (StopsOutside (Rose (I.view inputs.old).faults (I.view inputs.new).faults)) }
-        ensures read { ReadsNoOther self.old.file (λ asked. I.reads inputs.old asked inputs.new) (I.view inputs.old) (I.view inputs.new) }
+        ensures reads { ReadsOn result (λ _. ⊥) (λ asked. I.reads inputs.old asked inputs.new)
+            self.old self.new (I.view inputs.old) (I.view inputs.new) }
     {
         if !is_full(read) {
             return Ok(false);
@@ -228,12 +226,11 @@ impl FeedReader {
 
     /// Reads on until the first word of the next line is there, or as much of it as `more` has.
     fn look<I: Inputs>(&mut self, alloc: Global, inputs: &mut I) -> Result<(), FeedFault>
-        ensures same { IsSameReader self.old self.new }
         ensures lines { self.new.lines ≡ self.old.lines }
         ensures seen { OnOk result (BothKnown ((I.view inputs.old).left self.old.file) ((I.view inputs.new).left self.old.file)
             (IsSeen self.old.ahead self.new.ahead)) }
-        ensures stopped { IfErr result (StopsOutside (Rose (I.view inputs.old).faults (I.view inputs.new).faults)) }
-        ensures read { ReadsNoOther self.old.file (λ asked. I.reads inputs.old asked inputs.new) (I.view inputs.old) (I.view inputs.new) }
+        ensures reads { ReadsOn result (λ _. ⊥) (λ asked. I.reads inputs.old asked inputs.new)
+            self.old self.new (I.view inputs.old) (I.view inputs.new) }
     {
         while needs_more(self.ahead.bytes()) {
             match self.ahead.fill(alloc, inputs, self.file) {
@@ -249,15 +246,13 @@ impl FeedReader {
     fn next_line<I: Inputs>(&mut self, alloc: Global, inputs: &mut I) -> Result<bool, FeedFault>
         requires going { IsGoing self.old }
         ensures going { OnOk result (IsGoing self.new) }
-        ensures same { IsSameReader self.old self.new }
         ensures line { IfOk result (λ taken. BothKnown ((I.view inputs.old).left self.old.file) ((I.view inputs.new).left self.old.file)
             (λ before after. TakesOne taken self.new.lines.line (lines_left self.old before) (lines_left self.new after))) }
         ensures number { IfOk result (λ taken. self.new.lines.number ≡ self.old.lines.number + one_if taken) }
         ensures fits { IfOk result (λ taken. taken ≡ true → IsWithinLimits self.old self.new.lines.line) }
-        ensures stopped { IfErr result (Stops (λ fault. IfSome ((I.view inputs.old).left self.old.file)
+        ensures reads { ReadsOn result (λ fault. IfSome ((I.view inputs.old).left self.old.file)
             (λ before. PassesLimit self.old (lines_left self.old before) fault))
-            (Rose (I.view inputs.old).faults (I.view inputs.new).faults)) }
-        ensures read { ReadsNoOther self.old.file (λ asked. I.reads inputs.old asked inputs.new) (I.view inputs.old) (I.view inputs.new) }
+            (λ asked. I.reads inputs.old asked inputs.new) self.old self.new (I.view inputs.old) (I.view inputs.new) }
     {
         loop {
             match self.piece(alloc, inputs) {
@@ -275,14 +270,13 @@ impl FeedReader {
 
     /// Some bytes of the file that are not taken, which are read where there are none. `false`: the file is at its end.
     fn piece<I: Inputs>(&mut self, alloc: Global, inputs: &mut I) -> Result<bool, FeedFault>
-        ensures same { IsSameReader self.old self.new }
         ensures lines { self.new.lines ≡ self.old.lines }
         ensures bytes { IfOk result (λ more. MovesBytes self.old.ahead self.new.ahead more
             ((I.view inputs.old).left self.old.file) ((I.view inputs.new).left self.old.file)) }
         ensures some { IfOk result (λ more. more ≡ true → 0 < length self.new.ahead) }
         ensures none { IfOk result (λ more. more ≡ false → self.new.ahead ≡ []) }
-        ensures stopped { IfErr result (StopsOutside (Rose (I.view inputs.old).faults (I.view inputs.new).faults)) }
-        ensures read { ReadsNoOther self.old.file (λ asked. I.reads inputs.old asked inputs.new) (I.view inputs.old) (I.view inputs.new) }
+        ensures reads { ReadsOn result (λ _. ⊥) (λ asked. I.reads inputs.old asked inputs.new)
+            self.old self.new (I.view inputs.old) (I.view inputs.new) }
     {
         if self.ahead.bytes().is_empty() {
             return self.ahead.fill(alloc, inputs, self.file);

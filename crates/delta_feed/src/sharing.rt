@@ -9,6 +9,7 @@ ghost use Rattle.delta_feed.specs.Writing.{IsUnwritten};
 use crate::FeedWrite;
 use crate::rows::push_own_entries;
 use crate::written::{push_end, push_full, push_style};
+use object_fold::Workers;
 use osm_base::{OutOfMemory, Row, Spot};
 use outside::{Failed, Sink, put_all};
 use rayon::prelude::*;
@@ -34,6 +35,7 @@ pub fn write_full_by<R: Threads + Sync, S: Sink>(
     ensures err { IfErr result (IsUnwritten (full_text version style_bytes.now tables.now) (S.view out.old) (S.view out.new)) }
     ensures later { (S.view out.old).faults ≤ (S.view out.new).faults }
 {
+    let workers = Workers { count: workers };
     let Ok(texts) = full_texts(rt, alloc, workers, version, style_bytes, tables) else {
         return Err(FeedWrite::OutOfMemory);
     };
@@ -60,12 +62,11 @@ fn put_each<S: Sink>(out: &mut S, texts: &[Vec<u8>]) -> Result<(), Failed>
 fn full_texts<R: Threads + Sync>(
     rt: &R,
     alloc: Global,
-    workers: u32,
+    workers: Workers,
     version: u64,
     style_bytes: &[u8],
     tables: &SortedRows,
 ) -> Result<Vec<Vec<u8>>, OutOfMemory>
-    requires workers { 0 < workers }
     ensures texts { IfOk result (λ texts. flat_map (λ text. text.items) texts.items ≡ full_text version style_bytes.now tables.now) }
 {
     let mut rows = entry_texts(rt, alloc, workers, tables.rows())?;
@@ -99,10 +100,9 @@ fn end_text(alloc: Global) -> Result<Vec<u8>, OutOfMemory>
 fn entry_texts<R: Threads + Sync>(
     rt: &R,
     alloc: Global,
-    workers: u32,
+    workers: Workers,
     entries: &[(Spot, Row)],
 ) -> Result<Vec<Vec<u8>>, OutOfMemory>
-    requires workers { 0 < workers }
     ensures texts { IfOk result (λ texts. flat_map (λ text. text.items) texts.items ≡ text_of (entry_lines (table_entries entries.now))) }
 {
     let text = |piece: &[(Spot, Row)]| -> Result<Vec<u8>, OutOfMemory>
@@ -119,11 +119,10 @@ fn entry_texts<R: Threads + Sync>(
 // Where the rows do not come out even, few are left over. They stand behind the last piece, and the thread of that one makes their
 // text too.
 /// How many rows a piece has.
-fn piece_len(count: usize, workers: u32) -> usize
-    requires workers { 0 < workers }
+fn piece_len(count: usize, workers: Workers) -> usize
     ensures some { 0 < result }
 {
-    (count / workers as usize).max(LEAST)
+    (count / workers.count as usize).max(LEAST)
 }
 
 /// The text of a piece.

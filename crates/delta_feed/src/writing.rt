@@ -4,7 +4,7 @@ ghost use Rattle.std.specs.FinMap as finite;
 ghost use Rattle.std.specs.Io.KnownBytes.{Appends};
 ghost use Rattle.osm_base.specs.map.Spots.{spot_of};
 ghost use Rattle.delta_feed.specs.Text.{changes_at, changes_by_spot, delta_text, entry_lines, full_text, rows_at, text_of, told_entries};
-ghost use Rattle.delta_feed.specs.Writing.{IsUnwritten, told_by};
+ghost use Rattle.delta_feed.specs.Writing.{IsUnwritten, Writes, told_by};
 
 use crate::FeedWrite;
 use crate::rows::{entries_of, push_entries};
@@ -46,9 +46,7 @@ pub fn write_delta<S: Sink>(alloc: Global, delta: &Delta, out: &mut S) -> Result
 
 /// Puts a whole text.
 fn put<S: Sink>(out: &mut S, text: &[u8]) -> Result<(), FeedWrite>
-    ensures ok { OnOk result (Appends (S.view out.old).taken (S.view out.new).taken text.now) }
-    ensures err { IfErr result (IsUnwritten text.now (S.view out.old) (S.view out.new)) }
-    ensures later { (S.view out.old).faults ≤ (S.view out.new).faults }
+    ensures writes { Writes result text.now (S.view out.old) (S.view out.new) }
 {
     match put_all(out, text) {
         Ok(()) => Ok(()),

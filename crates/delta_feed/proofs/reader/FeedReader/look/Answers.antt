@@ -1,4 +1,4 @@
-use Rattle.std.proofs.Common.{ℕ, subst}
+use Rattle.std.proofs.Common.{rules, ℕ, subst}
 use Rattle.object_fold.specs.Whole.{MovesBytes}
 use Rattle.delta_feed.proofs.BlockSteps.{moved_more}
 use Rattle.delta_feed.proofs.Known.{reads_on}
@@ -18,14 +18,22 @@ loop-alloc-preserved g c =
           laws.reads_then c.args.inputs.now c.loop-alloc.inputs c.fill.new.inputs c.loop-alloc.invariant.alone c.fill.ensures.read;
     }
 
-pub returns-in-Ok-false-clause-read : goal.returns-in-Ok-false-clause-read
-returns-in-Ok-false-clause-read g c =
+pub returns-in-Ok-false-clause-reads : goal.returns-in-Ok-false-clause-reads
+returns-in-Ok-false-clause-reads g c =
     let laws = g.met.I.Inputs g.world.𝓛 g.world.𝓜 g.world.𝓡 ((λ s x. x), (λ x. x), (λ x. x), λ x. x) in
-    reads_on g.I.Inputs.reads g.I.Inputs.view c.args.self.now.file c.loop-alloc.self.file c.loop-alloc.invariant.same.file
-    laws.reads_then c.args.inputs.now c.loop-alloc.inputs c.fill.new.inputs c.loop-alloc.invariant.alone c.fill.ensures.read
+    record {
+      same = search rules;
+      read = reads_on g.I.Inputs.reads g.I.Inputs.view c.args.self.now.file c.loop-alloc.self.file c.loop-alloc.invariant.same.file
+          laws.reads_then c.args.inputs.now c.loop-alloc.inputs c.fill.new.inputs c.loop-alloc.invariant.alone c.fill.ensures.read;
+      stopped = search rules;
+    }
 
-pub returns-in-Err-clause-read : goal.returns-in-Err-clause-read
-returns-in-Err-clause-read g c =
+pub returns-in-Err-clause-reads : goal.returns-in-Err-clause-reads
+returns-in-Err-clause-reads g c =
     let laws = g.met.I.Inputs g.world.𝓛 g.world.𝓜 g.world.𝓡 ((λ s x. x), (λ x. x), (λ x. x), λ x. x) in
-    reads_on g.I.Inputs.reads g.I.Inputs.view c.args.self.now.file c.loop-alloc.self.file c.loop-alloc.invariant.same.file
-    laws.reads_then c.args.inputs.now c.loop-alloc.inputs c.fill.new.inputs c.loop-alloc.invariant.alone c.fill.ensures.read
+    record {
+      same = search rules;
+      read = reads_on g.I.Inputs.reads g.I.Inputs.view c.args.self.now.file c.loop-alloc.self.file c.loop-alloc.invariant.same.file
+          laws.reads_then c.args.inputs.now c.loop-alloc.inputs c.fill.new.inputs c.loop-alloc.invariant.alone c.fill.ensures.read;
+      stopped = search rules;
+    }

@@ -38,14 +38,14 @@ loop-next-preserved g c =
       going = c.in-Ok-Some-On.ensures.going;
       counted = omega (arith, c.loop-next.invariant.counted, rise.0);
       same = record {
-        file = c.turn.ensures.same.file ∙ c.loop-next.invariant.same.file;
-        limits = c.turn.ensures.same.limits ∙ c.loop-next.invariant.same.limits;
+        file = c.turn.ensures.reads.same.file ∙ c.loop-next.invariant.same.file;
+        limits = c.turn.ensures.reads.same.limits ∙ c.loop-next.invariant.same.limits;
       };
       sound = goes_sound base c.in-Ok-Some-On.next sound;
       leads = leads;
       first = not_first base c.in-Ok-Some-On.next c.args.self.now new _ _ sound leads;
       alone = reads_on g.I.Inputs.reads g.I.Inputs.view c.args.self.now.file now.file c.loop-next.invariant.same.file
-          laws.reads_then c.args.inputs.now c.loop-next.inputs c.turn.new.inputs c.loop-next.invariant.alone c.turn.ensures.read;
+          laws.reads_then c.args.inputs.now c.loop-next.inputs c.turn.new.inputs c.loop-next.invariant.alone c.turn.ensures.reads.read;
     }
 
 pub returns-in-Ok-Some-Whole-clause-number : goal.returns-in-Ok-Some-Whole-clause-number
@@ -65,16 +65,16 @@ pub returns-in-Ok-Some-Whole-clause-read : goal.returns-in-Ok-Some-Whole-clause-
 returns-in-Ok-Some-Whole-clause-read g c =
     let laws = g.met.I.Inputs g.world.𝓛 g.world.𝓜 g.world.𝓡 ((λ s x. x), (λ x. x), (λ x. x), λ x. x) in
     reads_on g.I.Inputs.reads g.I.Inputs.view c.args.self.now.file c.loop-next.self.file c.loop-next.invariant.same.file
-    laws.reads_then c.args.inputs.now c.loop-next.inputs c.turn.new.inputs c.loop-next.invariant.alone c.turn.ensures.read
+    laws.reads_then c.args.inputs.now c.loop-next.inputs c.turn.new.inputs c.loop-next.invariant.alone c.turn.ensures.reads.read
 
 pub returns-in-Ok-clause-read : goal.returns-in-Ok-clause-read
 returns-in-Ok-clause-read g c =
     let laws = g.met.I.Inputs g.world.𝓛 g.world.𝓜 g.world.𝓡 ((λ s x. x), (λ x. x), (λ x. x), λ x. x) in
     reads_on g.I.Inputs.reads g.I.Inputs.view c.args.self.now.file c.loop-next.self.file c.loop-next.invariant.same.file
-    laws.reads_then c.args.inputs.now c.loop-next.inputs c.turn.new.inputs c.loop-next.invariant.alone c.turn.ensures.read
+    laws.reads_then c.args.inputs.now c.loop-next.inputs c.turn.new.inputs c.loop-next.invariant.alone c.turn.ensures.reads.read
 
 pub returns-in-Err-clause-read : goal.returns-in-Err-clause-read
 returns-in-Err-clause-read g c =
     let laws = g.met.I.Inputs g.world.𝓛 g.world.𝓜 g.world.𝓡 ((λ s x. x), (λ x. x), (λ x. x), λ x. x) in
     reads_on g.I.Inputs.reads g.I.Inputs.view c.args.self.now.file c.loop-next.self.file c.loop-next.invariant.same.file
-    laws.reads_then c.args.inputs.now c.loop-next.inputs c.turn.new.inputs c.loop-next.invariant.alone c.turn.ensures.read
+    laws.reads_then c.args.inputs.now c.loop-next.inputs c.turn.new.inputs c.loop-next.invariant.alone c.turn.ensures.reads.read

@@ -1,4 +1,4 @@
-use Rattle.std.proofs.Common.{ℕ, Bool, false, sym, ap, ◌∙◌, subst, arith}
+use Rattle.std.proofs.Common.{rules, ℕ, Bool, false, sym, ap, ◌∙◌, subst, arith}
 use Rattle.object_fold.specs.Whole.{MovesBytes}
 use Rattle.opl_lines.specs.Lines.{lines_of}
 use Rattle.opl_lines.specs.Reading.{Reading, begun}
@@ -16,29 +16,45 @@ returns-in-Ok-false-clause-line g c = file_ended c.args.self.now c.loop-self.sel
     (ap (λ (own : Reading). lines_of (begun own)) (sym c.in-Ok-false.ensures.lines) ∙ c.finish.ensures.lines)
     (c.in-Ok-false.ensures.none c.in-Ok-false.field-0-test)
 
-pub returns-in-Ok-false-clause-read : goal.returns-in-Ok-false-clause-read
-returns-in-Ok-false-clause-read g c =
+pub returns-in-Ok-false-clause-reads : goal.returns-in-Ok-false-clause-reads
+returns-in-Ok-false-clause-reads g c =
     let laws = g.met.I.Inputs g.world.𝓛 g.world.𝓜 g.world.𝓡 ((λ s x. x), (λ x. x), (λ x. x), λ x. x) in
-    reads_on g.I.Inputs.reads g.I.Inputs.view c.args.self.now.file c.loop-self.self.file c.loop-self.invariant.same.file
-    laws.reads_then c.args.inputs.now c.loop-self.inputs c.piece.new.inputs c.loop-self.invariant.alone c.piece.ensures.read
+    record {
+      same = search rules;
+      read = reads_on g.I.Inputs.reads g.I.Inputs.view c.args.self.now.file c.loop-self.self.file c.loop-self.invariant.same.file
+          laws.reads_then c.args.inputs.now c.loop-self.inputs c.piece.new.inputs c.loop-self.invariant.alone c.piece.ensures.reads.read;
+      stopped = search rules;
+    }
 
-pub returns-in-Err-clause-read : goal.returns-in-Err-clause-read
-returns-in-Err-clause-read g c =
+pub returns-in-Err-clause-reads : goal.returns-in-Err-clause-reads
+returns-in-Err-clause-reads g c =
     let laws = g.met.I.Inputs g.world.𝓛 g.world.𝓜 g.world.𝓡 ((λ s x. x), (λ x. x), (λ x. x), λ x. x) in
-    reads_on g.I.Inputs.reads g.I.Inputs.view c.args.self.now.file c.loop-self.self.file c.loop-self.invariant.same.file
-    laws.reads_then c.args.inputs.now c.loop-self.inputs c.piece.new.inputs c.loop-self.invariant.alone c.piece.ensures.read
+    record {
+      same = search rules;
+      read = reads_on g.I.Inputs.reads g.I.Inputs.view c.args.self.now.file c.loop-self.self.file c.loop-self.invariant.same.file
+          laws.reads_then c.args.inputs.now c.loop-self.inputs c.piece.new.inputs c.loop-self.invariant.alone c.piece.ensures.reads.read;
+      stopped = search rules;
+    }
 
-pub returns-in-Ok-true-take_piece-clause-read : goal.returns-in-Ok-true-take_piece-clause-read
-returns-in-Ok-true-take_piece-clause-read g c =
+pub returns-in-Ok-true-take_piece-clause-reads : goal.returns-in-Ok-true-take_piece-clause-reads
+returns-in-Ok-true-take_piece-clause-reads g c =
     let laws = g.met.I.Inputs g.world.𝓛 g.world.𝓜 g.world.𝓡 ((λ s x. x), (λ x. x), (λ x. x), λ x. x) in
-    reads_on g.I.Inputs.reads g.I.Inputs.view c.args.self.now.file c.loop-self.self.file c.loop-self.invariant.same.file
-    laws.reads_then c.args.inputs.now c.loop-self.inputs c.piece.new.inputs c.loop-self.invariant.alone c.piece.ensures.read
+    record {
+      same = search rules;
+      read = reads_on g.I.Inputs.reads g.I.Inputs.view c.args.self.now.file c.loop-self.self.file c.loop-self.invariant.same.file
+          laws.reads_then c.args.inputs.now c.loop-self.inputs c.piece.new.inputs c.loop-self.invariant.alone c.piece.ensures.reads.read;
+      stopped = search rules;
+    }
 
-pub returns-in-Err-take_piece-clause-read : goal.returns-in-Err-take_piece-clause-read
-returns-in-Err-take_piece-clause-read g c =
+pub returns-in-Err-take_piece-clause-reads : goal.returns-in-Err-take_piece-clause-reads
+returns-in-Err-take_piece-clause-reads g c =
     let laws = g.met.I.Inputs g.world.𝓛 g.world.𝓜 g.world.𝓡 ((λ s x. x), (λ x. x), (λ x. x), λ x. x) in
-    reads_on g.I.Inputs.reads g.I.Inputs.view c.args.self.now.file c.loop-self.self.file c.loop-self.invariant.same.file
-    laws.reads_then c.args.inputs.now c.loop-self.inputs c.piece.new.inputs c.loop-self.invariant.alone c.piece.ensures.read
+    record {
+      same = search rules;
+      read = reads_on g.I.Inputs.reads g.I.Inputs.view c.args.self.now.file c.loop-self.self.file c.loop-self.invariant.same.file
+          laws.reads_then c.args.inputs.now c.loop-self.inputs c.piece.new.inputs c.loop-self.invariant.alone c.piece.ensures.reads.read;
+      stopped = search rules;
+    }
 
 pub loop-self-preserved : goal.loop-self-preserved
 loop-self-preserved g c =
@@ -50,8 +66,8 @@ loop-self-preserved g c =
     record {
       ready = c.in-Ok-false-take_piece.ensures.ready;
       same = record {
-        file = c.take_piece.ensures.same.file ∙ c.piece.ensures.same.file ∙ c.loop-self.invariant.same.file;
-        limits = c.take_piece.ensures.same.limits ∙ c.piece.ensures.same.limits ∙ c.loop-self.invariant.same.limits;
+        file = c.take_piece.ensures.same.file ∙ c.piece.ensures.reads.same.file ∙ c.loop-self.invariant.same.file;
+        limits = c.take_piece.ensures.same.limits ∙ c.piece.ensures.reads.same.limits ∙ c.loop-self.invariant.same.limits;
       };
       number = omega (arith, taken.number, ap (λ (own : Reading). own.number) c.in-Ok-true.ensures.lines, c.loop-self.invariant.number);
       left = left_on c.args.self.now piece new _ _
@@ -60,5 +76,5 @@ loop-self-preserved g c =
           ((g.I.Inputs.view c.loop-self.inputs).left f) ((g.I.Inputs.view c.piece.new.inputs).left f)) c.loop-self.invariant.same.file
           c.in-Ok-true.ensures.bytes) c.in-Ok-true.ensures.lines) taken;
       alone = reads_on g.I.Inputs.reads g.I.Inputs.view c.args.self.now.file c.loop-self.self.file c.loop-self.invariant.same.file
-          laws.reads_then c.args.inputs.now c.loop-self.inputs c.piece.new.inputs c.loop-self.invariant.alone c.piece.ensures.read;
+          laws.reads_then c.args.inputs.now c.loop-self.inputs c.piece.new.inputs c.loop-self.invariant.alone c.piece.ensures.reads.read;
     }
