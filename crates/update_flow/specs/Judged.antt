@@ -1,5 +1,6 @@
 -- What a look at the whole of a store finds.
-use Rattle.std.specs.Prelude.{◌≡◌, ◌≢◌, ◌⊎◌, ◌<◌, ℕ, Bool, List, [], true, false, Option, None, Some, Result, Ok, Err}
+use Rattle.std.specs.Prelude.{◌≡◌, ◌≢◌, ◌⊎◌, ◌<◌, ℕ, Bool, List, [], true, false, Option, None, Some, Result, Ok, Err, OnOk}
+use Rattle.std.specs.Result.{result_err}
 use Rattle.outside.specs.Disk.{DiskView}
 use Rattle.outside.specs.declared.disk.Disk.{Ghosts}
 use Rattle.page_journal.specs.Home.{Home}
@@ -18,12 +19,14 @@ use Rattle.style_read.specs.Style.{StyleOf}
 use Rattle.value_bytes.specs.StoreMap.{number_of}
 use Rattle.value_bytes.specs.declared.store_map.StoreMap.{StoreMap}
 use Rattle.store_check.specs.BadPage.{IsUnused}
+use Rattle.store_check.specs.Reading.{IsUnwritten}
 use Rattle.store_check.specs.Wrong.{IsFirstWrong}
 use Rattle.update_flow.specs.BadPage.{IsBadImage, IsBadWithin, IsImageOf, IsUnread, WritesStyle, root_told}
 use Rattle.update_flow.specs.Roots.{AreFieldsOf, is_blank, is_imported}
 use Rattle.update_flow.specs.Sound.{IsSoundImport}
 use Rattle.update_flow.specs.Stands.{IsBlank}
 use Rattle.update_flow.specs.State.{Holding}
+use Rattle.update_flow.specs.Within.{IsGoing, Runs}
 use Rattle.update_flow.specs.declared.fault.FlowFault.{FlowFault}
 use Rattle.update_flow.specs.declared.fault.FlowFault.TheVariants as flow
 use Rattle.update_flow.specs.declared.fields.TheConstants.{STYLE_TEXT}
@@ -99,6 +102,16 @@ pub record HasOnlyRead {D : Type 0} {g : Ghosts D} (old new : Buckets D g) : Typ
   pub going : has_refused new ≡ false
   pub has : (rest : Image) → Has rest rest old → Has rest rest new
   pub stays : OnlyRead (chains_of old) (chains_of new)
+
+-- what a call that only reads leaves, whatever its answer
+pub record OnlyReads {T D : Type 0} {g : Ghosts D} (old new : Buckets D g) (result : Result T FlowFault) : Type 0 where
+  pub only : OnOk result (HasOnlyRead old new)
+  pub runs : Runs old new (result_err result)
+
+-- a store may be judged under these buckets: they have refused nothing, and nothing was written
+pub record MayJudge {D : Type 0} {g : Ghosts D} (buckets : Buckets D g) : Type 0 where
+  pub ready : IsGoing buckets
+  pub unwritten : IsUnwritten buckets
 
 -- what was opened tells the same of its store
 pub record IsAsOpened (opened now : Opened) : Type 0 where

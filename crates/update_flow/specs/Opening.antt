@@ -23,6 +23,7 @@ use Rattle.update_flow.specs.declared.opened.Opened.{Opened}
 use Rattle.update_flow.specs.Roots.{AreFieldsOf, is_following}
 use Rattle.update_flow.specs.Stands.{Means}
 use Rattle.update_flow.specs.State.{State, changes_in, follows, following, style_in, was_old}
+use Rattle.update_flow.specs.Within.{IsSound}
 
 -- what an opening has found is a store of this state, on a disk like this
 pub record Found (state : State) (disk : DiskView) (opened : Opened) : Type 0 where
@@ -109,3 +110,8 @@ pub record Finds {T : Type 0} (found : Resting) (old new : DiskView) (result : R
   pub stays : Stays old new
   pub once : OnOk result ((state : State) → Fits found old → HoldsState state old → ReadsStyle old new)
   pub cause : HasFlowCause (result_err result) old new
+
+-- and refuses nothing of a store that means a state but where its disk fails or memory runs out
+pub record FindsSoundly {T : Type 0} (found : Resting) (old new : DiskView) (result : Result T FlowFault) : Type 0 where
+  pub finds : Finds found old new result
+  pub sound : Fits found old → (state : State) → HoldsState state old → IsSound (result_err result)

@@ -1,5 +1,5 @@
 -- Calls within a transaction on a store.
-use Rattle.std.specs.Prelude.{◌≡◌, ℕ, false, List, Option, None, Some, Result, OnOk}
+use Rattle.std.specs.Prelude.{◌≡◌, ◌≤◌, ℕ, false, List, Option, None, Some, Result, OnOk}
 use Rattle.std.specs.Result.{result_err}
 use Rattle.outside.specs.Causes.{Rose}
 use Rattle.outside.specs.declared.disk.Disk.{Ghosts}
@@ -7,6 +7,7 @@ use Rattle.osm_base.specs.map.Spots.{TableMap}
 use Rattle.page_journal.specs.Journal.{is_broken}
 use Rattle.page_journal.specs.declared.fault.StoreFault.TheVariants as store
 use Rattle.chain_store.specs.Chains.{disk_of, journal_of}
+use Rattle.bucket_store.specs.Buckets.{bucket_count}
 use Rattle.bucket_store.specs.Image.{Has, Image, OnlyLooks, with_text}
 use Rattle.bucket_store.specs.Transaction.{chains_of, has_refused}
 use Rattle.bucket_store.specs.declared.buckets.Buckets.{Buckets}
@@ -25,6 +26,11 @@ is_whole_store buckets = is_broken (journal_of (chains_of buckets)) ≡ false
 pub record IsGoing {D : Type 0} {g : Ghosts D} (buckets : Buckets D g) : Type 0 where
   pub going : has_refused buckets ≡ false
   pub whole : is_whole_store buckets
+
+-- and a store that has buckets
+pub record IsFilled {D : Type 0} {g : Ghosts D} (buckets : Buckets D g) : Type 0 where
+  pub ready : IsGoing buckets
+  pub some : 1 ≤ bucket_count (chains_of buckets)
 
 abbrev pub faults_in : {D : Type 0} {g : Ghosts D} → Buckets D g → ℕ
 faults_in buckets = (disk_of (chains_of buckets)).faults
@@ -52,6 +58,11 @@ pub record Runs {D : Type 0} {g : Ghosts D} (old new : Buckets D g) (fault : Opt
   pub alone : MayRun fault
   pub whole : IsNoDiskFault fault → is_whole_store new
   pub failed : fault ≡ Some (flow.Store store.DiskFault) → Rose (faults_in old) (faults_in new)
+
+-- and where it is answered it has refused nothing
+pub record GoesOn {T D : Type 0} {g : Ghosts D} (old new : Buckets D g) (result : Result T FlowFault) : Type 0 where
+  pub going : OnOk result (has_refused new ≡ false)
+  pub runs : Runs old new (result_err result)
 
 -- a text is these bytes from now on
 pub record StoresText {T D : Type 0} {g : Ghosts D} (n : ℕ) (bytes : List ℕ) (old new : Buckets D g)

@@ -1,15 +1,15 @@
 //! The due tiles of a store: they are one of its texts.
-ghost use Rattle.std.specs.Prelude.{◌≡◌, ℕ, false, IfOk, OnOk};
+ghost use Rattle.std.specs.Prelude.{◌≡◌, ℕ, IfOk, OnOk};
 ghost use Rattle.std.specs.Result.{result_err};
 ghost use Rattle.tile_cover.specs.Runs.{has};
 ghost use Rattle.due_tiles.specs.Spelling.{set_bytes};
 ghost use Rattle.bucket_store.specs.Image.{Has, Image};
-ghost use Rattle.bucket_store.specs.Transaction.{chains_of, has_refused};
+ghost use Rattle.bucket_store.specs.Transaction.{chains_of};
 ghost use Rattle.chain_store.specs.Reads.{ReadsOnly};
 ghost use Rattle.update_flow.specs.Due.{Tiles};
 ghost use Rattle.update_flow.specs.Stands.{AreDue, IsImported};
 ghost use Rattle.update_flow.specs.State.{Holding};
-ghost use Rattle.update_flow.specs.Within.{IsGoing, IsSound, Runs, StoresText};
+ghost use Rattle.update_flow.specs.Within.{GoesOn, IsGoing, IsSound, StoresText};
 ghost use Rattle.update_flow.specs.declared.fields.TheConstants.{DUE_TEXT};
 
 use crate::fault::store_fault;
@@ -30,11 +30,10 @@ pub(crate) fn load_due<D: Disk>(
     ensures due { IfOk result (λ found. (rest now : Image) (held : Holding) → Has rest now buckets.old → IsImported held now
         → (zoom x y : ℕ) → has found zoom x y ≡ held.due zoom x y) }
     ensures has { OnOk result ((rest now : Image) → Has rest now buckets.old → Has rest now buckets.new) }
-    ensures going { OnOk result (has_refused buckets.new ≡ false) }
     ensures sound { (rest now : Image) (held : Holding) → Has rest now buckets.old → IsImported held now → IsSound (result_err result) }
     ensures spelled { (rest now : Image) (due : Tiles) → Has rest now buckets.old → AreDue (now.texts DUE_TEXT) due → IsSound (result_err result) }
     ensures reads { OnOk result (ReadsOnly (λ n. n ≡ DUE_TEXT) (chains_of buckets.old) (chains_of buckets.new)) }
-    ensures runs { Runs buckets.old buckets.new (result_err result) }
+    ensures goes { GoesOn buckets.old buckets.new result }
 {
     let bytes = match buckets.load(DUE_TEXT) {
         Ok(bytes) => bytes,

@@ -8,11 +8,10 @@ ghost use Rattle.bucket_store.specs.Opening.{Fits, opened_root};
 ghost use Rattle.update_flow.specs.AtRest.{IsAt, IsAtEither, Opens, OpensAs};
 ghost use Rattle.update_flow.specs.Either.{AreFieldsForEither, FoundEither, OpensEither, OpensSoundEither};
 ghost use Rattle.update_flow.specs.Judged.{IsSoundImage};
-ghost use Rattle.update_flow.specs.Opening.{Finds, HoldsState};
+ghost use Rattle.update_flow.specs.Opening.{FindsSoundly, HoldsState};
 ghost use Rattle.update_flow.specs.Sound.{IsSound as IsSoundStore};
 ghost use Rattle.update_flow.specs.State.{State};
 ghost use Rattle.update_flow.specs.Stands.{StandsFor};
-ghost use Rattle.update_flow.specs.Within.{IsSound};
 
 use crate::fault::store_fault;
 use crate::fields::is_following;
@@ -60,8 +59,7 @@ fn sorted<D: Disk>(
     ensures found { IfOk result (λ sorted. Fits found (D.view disk.old) → (state : State) → HoldsState state (D.view disk.old)
         → FoundEither state (D.view disk.new) sorted) }
     ensures fields { IfOk result (λ sorted. AreFieldsForEither sorted (opened_root found)) }
-    ensures sound { Fits found (D.view disk.old) → (state : State) → HoldsState state (D.view disk.old) → IsSound (result_err result) }
-    ensures finds { Finds found (D.view disk.old) (D.view disk.new) result }
+    ensures looks { FindsSoundly found (D.view disk.old) (D.view disk.new) result }
     ensures judged { (image : Image) → Fits found (D.view disk.old) → HoldsImage image (D.view disk.old) → IsSoundImage image
         → OpensSoundEither (D.view disk.new) result }
 {

@@ -10,8 +10,7 @@ ghost use Rattle.update_flow.specs.Roots.{is_following, is_imported};
 ghost use Rattle.update_flow.specs.Sound.{IsSound as IsSoundStore};
 ghost use Rattle.update_flow.specs.State.{State};
 ghost use Rattle.update_flow.specs.Stands.{StandsFor};
-ghost use Rattle.update_flow.specs.Opening.{Finds, HoldsState};
-ghost use Rattle.update_flow.specs.Within.{IsSound};
+ghost use Rattle.update_flow.specs.Opening.{FindsSoundly, HoldsState};
 ghost use Rattle.update_flow.specs.declared.fault.TheConstants.{LAST_CHANGE};
 
 use crate::fault::store_fault;
@@ -61,8 +60,7 @@ fn based<D: Disk>(
     ensures found { IfOk result (λ based. Fits found (D.view disk.old) → (state : State) → HoldsState state (D.view disk.old)
         → FoundBaseIn state (D.view disk.new) based) }
     ensures fields { IfOk result (λ based. AreFieldsForBase based (opened_root found)) }
-    ensures sound { Fits found (D.view disk.old) → (state : State) → HoldsState state (D.view disk.old) → IsSound (result_err result) }
-    ensures finds { Finds found (D.view disk.old) (D.view disk.new) result }
+    ensures looks { FindsSoundly found (D.view disk.old) (D.view disk.new) result }
     ensures taken { is_imported (opened_root found) ≡ true → result ≡ Ok None }
 {
     let root = found.root();
@@ -102,8 +100,7 @@ pub(crate) fn with_tables<D: Disk>(
     ensures found { IfOk result (λ base. Fits found (D.view disk.old) → (state : State) → HoldsState state (D.view disk.old)
         → FoundBase state (D.view disk.new) base) }
     ensures styled { IfOk result (λ base. (is_some base.style ≡ true) × (base.version ≡ version)) }
-    ensures sound { Fits found (D.view disk.old) → (state : State) → HoldsState state (D.view disk.old) → IsSound (result_err result) }
-    ensures finds { Finds found (D.view disk.old) (D.view disk.new) result }
+    ensures looks { FindsSoundly found (D.view disk.old) (D.view disk.new) result }
 {
     match with_style(alloc, disk, limits, found, version, false) {
         Ok(opened) => {

@@ -1,17 +1,17 @@
 //! A store follows another one: it takes a block, in one commit, within its buckets.
-ghost use Rattle.std.specs.Prelude.{◌≡◌, ◌≤◌, ◌<◌, ◌+◌, false, Some, OnOk};
+ghost use Rattle.std.specs.Prelude.{◌≡◌, ◌≤◌, ◌<◌, ◌+◌, Some, OnOk};
 ghost use Rattle.std.specs.Result.{result_err};
 ghost use Rattle.osm_base.specs.declared.bounds.limits.LimitNumbers.{LimitNumbers};
 ghost use Rattle.bucket_store.specs.Buckets.{bucket_count};
 ghost use Rattle.bucket_store.specs.Image.{Has, Image};
-ghost use Rattle.bucket_store.specs.Transaction.{chains_of, has_refused};
+ghost use Rattle.bucket_store.specs.Transaction.{chains_of};
 ghost use Rattle.delta_feed.specs.Sound.{IsDelta, IsFull};
 ghost use Rattle.delta_feed.specs.declared.block.Block.TheVariants as blocks;
 ghost use Rattle.update_flow.specs.Stands.{IsBlank, IsFollowing};
 ghost use Rattle.update_flow.specs.State.{Follow, Following, following, formatted};
 ghost use Rattle.update_flow.specs.Taking.{HasRoom, styled, versioned};
 ghost use Rattle.update_flow.specs.Turning.{CommitsWith, EndsIn, TurnsIn, limit_in};
-ghost use Rattle.update_flow.specs.Within.{IsGoing, IsSound, Runs, StoresText};
+ghost use Rattle.update_flow.specs.Within.{GoesOn, IsGoing, IsSound, StoresText};
 ghost use Rattle.update_flow.specs.declared.fields.TheConstants.{STYLE_TEXT};
 
 use crate::fault::store_fault;
@@ -87,9 +87,8 @@ fn make_room<D: Disk>(buckets: &mut Buckets<'_, D>) -> Result<(), FlowFault>
     requires ready { IsGoing buckets.old }
     ensures room { OnOk result ((rest now : Image) → Has rest now buckets.old → (later : Image) × Has rest later buckets.new × HasRoom now later) }
     ensures some { OnOk result (1 ≤ bucket_count (chains_of buckets.new)) }
-    ensures going { OnOk result (has_refused buckets.new ≡ false) }
     ensures sound { (rest now : Image) → Has rest now buckets.old → IsSound (result_err result) }
-    ensures runs { Runs buckets.old buckets.new (result_err result) }
+    ensures goes { GoesOn buckets.old buckets.new result }
 {
     if buckets.root().buckets == 0 {
         buckets.set_buckets(FOLLOWER_BUCKETS);

@@ -13,9 +13,8 @@ ghost use Rattle.tile_cover.specs.Runs.{IsTileSet};
 ghost use Rattle.value_bytes.specs.Forms.{IsNoValue};
 ghost use Rattle.due_tiles.specs.Spelling.{set_bytes};
 ghost use Rattle.store_check.specs.BadPage.{AreChains, AreLoaded, AreOwned, IsUnused};
-ghost use Rattle.store_check.specs.Reading.{IsUnwritten};
 ghost use Rattle.store_check.specs.Wrong.{AllRight};
-ghost use Rattle.update_flow.specs.Judged.{AreEmptyBelow, HasOnlyRead, IsEmptyAt, IsEmptyText, IsOfToday, IsWrongAt, Judges, JudgesImage, TellsToday, fault_unless, rooted};
+ghost use Rattle.update_flow.specs.Judged.{AreEmptyBelow, IsEmptyAt, IsEmptyText, IsOfToday, IsWrongAt, Judges, JudgesImage, MayJudge, OnlyReads, TellsToday, fault_unless, rooted};
 ghost use Rattle.update_flow.specs.Due.{Tiles};
 ghost use Rattle.update_flow.specs.Roots.{is_blank, is_imported};
 ghost use Rattle.update_flow.specs.Stands.{AreDue};
@@ -74,8 +73,7 @@ fn judge_meant<D: Disk>(
     buckets: &mut Buckets<'_, D>,
     empty: bool,
 ) -> Result<(), FlowFault>
-    requires ready { IsGoing buckets.old }
-    requires unwritten { IsUnwritten buckets.old }
+    requires may { MayJudge buckets.old }
     ensures exact { (image : Image) → Has image image buckets.old → AreEmptyBelow 8 empty image → IsOfToday image
         → JudgesImage (kept_of (chains_of buckets.old)) image (result_err result) }
     ensures runs { Runs buckets.old buckets.new (result_err result) }
@@ -137,8 +135,7 @@ fn judge_import<D: Disk>(
     buckets: &mut Buckets<'_, D>,
     empty: bool,
 ) -> Result<(), FlowFault>
-    requires ready { IsGoing buckets.old }
-    requires unwritten { IsUnwritten buckets.old }
+    requires may { MayJudge buckets.old }
     requires some { 1 ≤ bucket_count (chains_of buckets.old) }
     ensures exact { (image : Image) → Has image image buckets.old → AreEmptyBelow 8 empty image → is_imported image.root ≡ true
         → JudgesImage (kept_of (chains_of buckets.old)) image (result_err result) }
@@ -165,14 +162,12 @@ fn judge_values<D: Disk>(
     buckets: &mut Buckets<'_, D>,
     style: &Style,
 ) -> Result<(), FlowFault>
-    requires ready { IsGoing buckets.old }
-    requires unwritten { IsUnwritten buckets.old }
+    requires may { MayJudge buckets.old }
     requires some { 1 ≤ bucket_count (chains_of buckets.old) }
     ensures right { OnOk result ((image : Image) → Has image image buckets.old → AllRight style.now image) }
     ensures wrong { (at : ℕ) → IsErrOf result (Store (BadStore at)) → (image : Image) → Has image image buckets.old
         → IsWrongAt style.now (kept_of (chains_of buckets.old)) image at }
-    ensures reads { OnOk result (HasOnlyRead buckets.old buckets.new) }
-    ensures runs { Runs buckets.old buckets.new (result_err result) }
+    ensures reads { OnlyReads buckets.old buckets.new result }
 {
     match first_wrong(alloc, buckets, style) {
         Ok(None) => Ok(()),
@@ -189,8 +184,7 @@ fn judge_due<D: Disk>(alloc: Global, buckets: &mut Buckets<'_, D>) -> Result<(),
     ensures due { OnOk result ((image : Image) → Has image image buckets.old → (due : Tiles) × AreDue (image.texts DUE_TEXT) due) }
     ensures none { (at : ℕ) → IsErrOf result (Store (BadStore at)) → (image : Image) → Has image image buckets.old
         → (at ≡ 1) × IsNoValue set_bytes IsTileSet (image.texts DUE_TEXT) }
-    ensures reads { OnOk result (HasOnlyRead buckets.old buckets.new) }
-    ensures runs { Runs buckets.old buckets.new (result_err result) }
+    ensures reads { OnlyReads buckets.old buckets.new result }
 {
     let bytes = match buckets.load(DUE_TEXT) {
         Ok(bytes) => bytes,
@@ -212,8 +206,7 @@ fn are_empty<D: Disk>(buckets: &mut Buckets<'_, D>) -> Result<bool, FlowFault>
     ensures refused { (at : ℕ) → IsErrOf result (Store (BadStore at)) → (pages : List (List ℕ)) → IsOpenStore pages buckets.old
         → (at ≡ 1) × ((n refused : ℕ) × IsUnused n × IsRefused pages n (first_of (chains_of buckets.old) n) refused) }
     ensures open { (pages : List (List ℕ)) → IsOpenStore pages buckets.old → IsOpenStore pages buckets.new }
-    ensures reads { OnOk result (HasOnlyRead buckets.old buckets.new) }
-    ensures runs { Runs buckets.old buckets.new (result_err result) }
+    ensures reads { OnlyReads buckets.old buckets.new result }
 {
     let mut empty = true;
     let mut n = 0;
@@ -251,8 +244,7 @@ fn is_unused_empty<D: Disk>(buckets: &mut Buckets<'_, D>, n: u32) -> Result<bool
     ensures refused { (at : ℕ) → IsErrOf result (Store (BadStore at)) → (pages : List (List ℕ)) → IsOpenStore pages buckets.old
         → (at ≡ 1) × ((k refused : ℕ) × IsUnused k × IsRefused pages k (first_of (chains_of buckets.old) k) refused) }
     ensures open { (pages : List (List ℕ)) → IsOpenStore pages buckets.old → IsOpenStore pages buckets.new }
-    ensures reads { OnOk result (HasOnlyRead buckets.old buckets.new) }
-    ensures runs { Runs buckets.old buckets.new (result_err result) }
+    ensures reads { OnlyReads buckets.old buckets.new result }
 {
     if is_used(n) {
         return Ok(true);
@@ -273,8 +265,7 @@ fn is_empty<D: Disk>(buckets: &mut Buckets<'_, D>, n: u32) -> Result<bool, FlowF
     ensures refused { (at : ℕ) → IsErrOf result (Store (BadStore at)) → (pages : List (List ℕ)) → IsOpenStore pages buckets.old
         → IsRefused pages n (first_of (chains_of buckets.old) n) at }
     ensures open { (pages : List (List ℕ)) → IsOpenStore pages buckets.old → IsOpenStore pages buckets.new }
-    ensures reads { OnOk result (HasOnlyRead buckets.old buckets.new) }
-    ensures runs { Runs buckets.old buckets.new (result_err result) }
+    ensures reads { OnlyReads buckets.old buckets.new result }
 {
     match buckets.load(n) {
         Ok(bytes) => Ok(has_none(bytes.as_slice())),

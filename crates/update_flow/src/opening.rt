@@ -15,7 +15,7 @@ ghost use Rattle.update_flow.specs.Sound.{IsSound as IsSoundStore};
 ghost use Rattle.update_flow.specs.SoundTurns.{OpensSound, TellsStyle};
 ghost use Rattle.update_flow.specs.State.{State, style_in, was_imported, was_old};
 ghost use Rattle.update_flow.specs.Stands.{StandsFor};
-ghost use Rattle.update_flow.specs.Opening.{AreFieldsFor, Finds, Found, FoundIn, HoldsState, IsStyled, OpensAny};
+ghost use Rattle.update_flow.specs.Opening.{AreFieldsFor, Finds, FindsSoundly, Found, FoundIn, HoldsState, IsStyled, OpensAny};
 ghost use Rattle.update_flow.specs.OpeningReads.{ReadsToOpen};
 ghost use Rattle.update_flow.specs.Roots.{AreFieldsOf, is_following, is_old};
 ghost use Rattle.update_flow.specs.Within.{IsSound};
@@ -81,8 +81,7 @@ fn judged<D: Disk>(
     ensures fields { IfOk result (λ judged. AreFieldsFor judged (opened_root found)) }
     ensures style { IfOk result (λ judged. IfSome judged (λ opened. (image : Image) → Fits found (D.view disk.old) → HoldsImage image (D.view disk.old)
         → TellsStyle opened.style image)) }
-    ensures sound { Fits found (D.view disk.old) → (state : State) → HoldsState state (D.view disk.old) → IsSound (result_err result) }
-    ensures finds { Finds found (D.view disk.old) (D.view disk.new) result }
+    ensures looks { FindsSoundly found (D.view disk.old) (D.view disk.new) result }
     ensures fits { IfOk result (λ judged. IfSome judged (λ opened. (fits : Fits found (D.view disk.old))
         → FitsPages fits.pages opened.store (D.view disk.new))) }
     ensures bad { (at : ℕ) → IsErrOf result (Store (BadStore at)) → (fits : Fits found (D.view disk.old))
@@ -110,8 +109,7 @@ pub(crate) fn styled<D: Disk>(
         → Found state (D.view disk.new) opened) }
     ensures fields { IfOk result (λ opened. AreFieldsOf opened.style opened.outdated opened.changes (opened_root found)) }
     ensures style { IfOk result (λ opened. (image : Image) → Fits found (D.view disk.old) → HoldsImage image (D.view disk.old) → TellsStyle opened.style image) }
-    ensures sound { Fits found (D.view disk.old) → (state : State) → HoldsState state (D.view disk.old) → IsSound (result_err result) }
-    ensures finds { Finds found (D.view disk.old) (D.view disk.new) result }
+    ensures looks { FindsSoundly found (D.view disk.old) (D.view disk.new) result }
     ensures fits { IfOk result (λ opened. (fits : Fits found (D.view disk.old)) → FitsPages fits.pages opened.store (D.view disk.new)) }
     ensures bad { (at : ℕ) → IsErrOf result (Store (BadStore at)) → (fits : Fits found (D.view disk.old))
         → (¬ AreSound fits.pages) × IsBadWithin fits.pages found.kept at }

@@ -1,14 +1,14 @@
 //! Rows that a block tells are put into the store of a follower, within its buckets.
-ghost use Rattle.std.specs.Prelude.{◌≡◌, ◌≤◌, false, IfOk, OnOk};
+ghost use Rattle.std.specs.Prelude.{◌≡◌, IfOk, OnOk};
 ghost use Rattle.std.specs.List.Sorted.{IsPermutation};
 ghost use Rattle.std.specs.Result.{result_err};
 ghost use Rattle.osm_base.specs.map.Spots.{TableMap, changed, changed_all};
 ghost use Rattle.bucket_store.specs.Buckets.{bucket_count};
 ghost use Rattle.bucket_store.specs.Image.{Has, Image};
-ghost use Rattle.bucket_store.specs.Transaction.{chains_of, has_refused};
+ghost use Rattle.bucket_store.specs.Transaction.{chains_of};
 ghost use Rattle.row_store.specs.Tables.{HoldsTables};
 ghost use Rattle.update_flow.specs.Taking.{AllFit, FitsTable, HasTables};
-ghost use Rattle.update_flow.specs.Within.{IsGoing, IsSound, Runs};
+ghost use Rattle.update_flow.specs.Within.{GoesOn, IsFilled, IsSound};
 
 use crate::FlowFault;
 use crate::fault::store_fault;
@@ -26,15 +26,13 @@ pub(crate) fn take_rows<D: Disk>(
     style: &Style,
     changes: RowChanges,
 ) -> Result<(), FlowFault>
-    requires ready { IsGoing buckets.old }
-    requires some { 1 ≤ bucket_count (chains_of buckets.old) }
+    requires filled { IsFilled buckets.old }
     requires fit { AllFit style.now.tables changes }
     ensures taken { OnOk result ((rest now : Image) (tables : TableMap) → Has rest now buckets.old → HoldsTables style.now.tables now.maps tables
         → HasTables style.now.tables (changed_all tables changes) rest now buckets.new) }
-    ensures going { OnOk result (has_refused buckets.new ≡ false) }
     ensures sound { (rest now : Image) (tables : TableMap) → Has rest now buckets.old → HoldsTables style.now.tables now.maps tables
         → IsSound (result_err result) }
-    ensures runs { Runs buckets.old buckets.new (result_err result) }
+    ensures goes { GoesOn buckets.old buckets.new result }
 {
     let Ok(mut changes) = by_key(changes) else {
         return Err(FlowFault::OutOfMemory);
@@ -66,16 +64,14 @@ fn take_row<D: Disk>(
     style: &Style,
     change: RowChange,
 ) -> Result<(), FlowFault>
-    requires ready { IsGoing buckets.old }
-    requires some { 1 ≤ bucket_count (chains_of buckets.old) }
+    requires filled { IsFilled buckets.old }
     requires fits { FitsTable style.now.tables change }
     ensures taken { OnOk result ((rest now : Image) (tables : TableMap) → Has rest now buckets.old → HoldsTables style.now.tables now.maps tables
         → HasTables style.now.tables (changed tables change) rest now buckets.new) }
-    ensures going { OnOk result (has_refused buckets.new ≡ false) }
     ensures count { bucket_count (chains_of buckets.new) ≡ bucket_count (chains_of buckets.old) }
     ensures sound { (rest now : Image) (tables : TableMap) → Has rest now buckets.old → HoldsTables style.now.tables now.maps tables
         → IsSound (result_err result) }
-    ensures runs { Runs buckets.old buckets.new (result_err result) }
+    ensures goes { GoesOn buckets.old buckets.new result }
 {
     let RowChange { table, key, row } = change;
     match set_row(alloc, buckets, style, Spot { table, key }, row) {

@@ -35,7 +35,7 @@ pub change_maps-requires-clause-spent : goal.change_maps-requires-clause-spent
 change_maps-requires-clause-spent g c =
     λ lifetimes within.
     over_none (stop_of c.args.maps.now) (is_spent c.load_due.new.buckets) c.requires.fresh
-    (none_spent c.load_due.new.buckets c.in-Ok.ensures.going (c.in-Ok.ensures.runs.whole tt)
+    (none_spent c.load_due.new.buckets c.in-Ok.ensures.goes.going (c.in-Ok.ensures.goes.runs.whole tt)
     (not_zero (bucket_count (chains_of c.load_due.new.buckets))
     (λ zero. c.if-root-eq0.false (ap (λ (r : Root). r.buckets) c.root.ensures ∙ zero))))
 
@@ -52,12 +52,12 @@ pub returns-in-Err-clause-turns : goal.returns-in-Err-clause-turns
 returns-in-Err-clause-turns g c held rest same was is style next =
     turns_refused c.args.limits.now (imported held) (Append c.args.bounds.now c.args.change.now) c.in-Err.fault rest
     (buckets_of c.args.maps.now) c.load_due.new.buckets
-    (rests_under rest rest (buckets_of c.args.maps.now) was) is c.in-Err.ensures.runs.looks
+    (rests_under rest rest (buckets_of c.args.maps.now) was) is c.in-Err.ensures.goes.runs.looks
     (sound_answers c.args.limits.now c.in-Err.fault _ (c.in-Err.ensures.sound rest rest held was is))
     (sound_fits c.args.limits.now _ c.in-Err.fault (c.in-Err.ensures.sound rest rest held was is))
 
 pub returns-in-Err-clause-ends : goal.returns-in-Err-clause-ends
-returns-in-Err-clause-ends g c = runs_ended _ (buckets_of c.args.maps.now) c.load_due.new.buckets c.in-Err.ensures.runs
+returns-in-Err-clause-ends g c = runs_ended _ (buckets_of c.args.maps.now) c.load_due.new.buckets c.in-Err.ensures.goes.runs
 
 -- the change is refused
 pub returns-in-Err-change_maps-clause-turns : goal.returns-in-Err-change_maps-clause-turns
@@ -82,7 +82,7 @@ returns-in-Err-change_maps-clause-turns g c held rest same was is style next =
     subst (λ (f : FlowFault). TurnsIn limits (imported held) (Append c.args.bounds.now change) (Some f) old (buckets_of last))
     (sym c.step_fault.ensures)
     (turns_refused limits (imported held) (Append c.args.bounds.now change) _ rest old (buckets_of last) (rests_under rest rest old was) is
-    (looks_then old mid (buckets_of last) c.in-Ok.ensures.runs.looks later.looks) answers
+    (looks_then old mid (buckets_of last) c.in-Ok.ensures.goes.runs.looks later.looks) answers
     (step_fits limits _ c.in-Err-change_maps.why
     (c.in-Err-change_maps.ensures.changes under is.maps.maps held.objects keeps stand).allowed))
 
@@ -94,7 +94,7 @@ returns-in-Err-change_maps-clause-ends g c =
     let later = c.change_maps.ensures.goes.looked _ (later_same _) in
     subst (λ (f : FlowFault). EndsIn (Some (Append c.args.bounds.now c.args.change.now)) (Some f) old (buckets_of last))
     (sym c.step_fault.ensures)
-    (ends_then _ old mid (buckets_of last) c.in-Ok.ensures.runs.looks
+    (ends_then _ old mid (buckets_of last) c.in-Ok.ensures.goes.runs.looks
     (step_ends mid (buckets_of last) later.looks _ _ _ c.in-Err-change_maps.why c.in-Err-change_maps.ensures.goes.ends
     (λ fault refused. (refused _ (later_same _)).1) (λ fresh. over_whole last fresh) (Some (Append c.args.bounds.now c.args.change.now))
     (λ value many. tt)))
@@ -105,7 +105,7 @@ returns-in-Err-change_maps-clause-ends g c =
 pub returns-in-Err-clause-sound : goal.returns-in-Err-clause-sound
 returns-in-Err-clause-sound g c held rest same was is style next =
     sound_refused c.args.limits.now (imported held) (Append c.args.bounds.now c.args.change.now) rest is c.in-Err.fault
-    (buckets_of c.args.maps.now) c.load_due.new.buckets (rests_under rest rest (buckets_of c.args.maps.now) was) c.in-Err.ensures.runs.looks
+    (buckets_of c.args.maps.now) c.load_due.new.buckets (rests_under rest rest (buckets_of c.args.maps.now) was) c.in-Err.ensures.goes.runs.looks
     (sound_answers c.args.limits.now c.in-Err.fault _ (c.in-Err.ensures.spelled rest rest held.due was is.due))
 
 -- the change is refused
@@ -131,7 +131,7 @@ returns-in-Err-change_maps-clause-sound g c held rest same was is style next =
     subst (λ (f : FlowFault). TurnsSound limits (imported held) (Append c.args.bounds.now change) (Some f) old (buckets_of last))
     (sym c.step_fault.ensures)
     (sound_refused limits (imported held) (Append c.args.bounds.now change) rest is _ old (buckets_of last) (rests_under rest rest old was)
-    (looks_then old mid (buckets_of last) c.in-Ok.ensures.runs.looks later.looks) answers)
+    (looks_then old mid (buckets_of last) c.in-Ok.ensures.goes.runs.looks later.looks) answers)
 
 -- all is committed, or nothing
 pub returns-in-Ok-settle-clause-sound : goal.returns-in-Ok-settle-clause-sound
@@ -145,7 +145,7 @@ returns-in-Ok-settle-clause-sound g c held rest same was is style next =
     (c.in-Ok.ensures.has rest rest was) in
     let stand = stands_known held rest is c.args.style.now style in
     sound_turns held rest is c.args.style.now style c.args.limits.now c.args.bounds.now c.args.change.now c.args.number old mid
-    (buckets_of last) c.settle.new.buckets c.in-Ok.ensures.runs.looks later.looks c.change_maps.new.due _ c.in-Ok-settle.ensures.commits
+    (buckets_of last) c.settle.new.buckets c.in-Ok.ensures.goes.runs.looks later.looks c.change_maps.new.due _ c.in-Ok-settle.ensures.commits
     (style_in last) _ (later.same_style ∙ c.requires.style) was same next c.requires.counted
     (subst (λ (l : List Run). IsTileSet l) c.as_slice-runs.ensures.runs c.as_slice-runs.ensures.tiles)
     (subst (λ (l : List Entry). AreIdEntries l) c.entries.ensures.entries c.known_ids.ensures)
@@ -162,7 +162,7 @@ returns-clause-sound g c held rest same was is style next =
     (c.in-Ok.ensures.has rest rest was) in
     let stand = stands_known held rest is c.args.style.now style in
     sound_turns held rest is c.args.style.now style c.args.limits.now c.args.bounds.now c.args.change.now c.args.number old mid
-    (buckets_of last) c.settle.new.buckets c.in-Ok.ensures.runs.looks later.looks c.change_maps.new.due _ c.in-Err-settle.ensures.commits
+    (buckets_of last) c.settle.new.buckets c.in-Ok.ensures.goes.runs.looks later.looks c.change_maps.new.due _ c.in-Err-settle.ensures.commits
     (style_in last) _ (later.same_style ∙ c.requires.style) was same next c.requires.counted
     (subst (λ (l : List Run). IsTileSet l) c.as_slice-runs.ensures.runs c.as_slice-runs.ensures.tiles)
     (subst (λ (l : List Entry). AreIdEntries l) c.entries.ensures.entries c.known_ids.ensures)
@@ -196,7 +196,7 @@ returns-in-Ok-settle-clause-turns g c held rest same was is style next =
     (c.in-Ok.ensures.has rest rest was) in
     let stand = maps_stand held rest is c.args.style.now style in
     append_turns held rest is c.args.style.now style c.args.limits.now c.args.bounds.now c.args.change.now c.args.number old mid
-    (buckets_of last) c.settle.new.buckets c.in-Ok.ensures.runs.looks later.looks c.change_maps.new.due _ c.in-Ok-settle.ensures.commits
+    (buckets_of last) c.settle.new.buckets c.in-Ok.ensures.goes.runs.looks later.looks c.change_maps.new.due _ c.in-Ok-settle.ensures.commits
     (style_in last) _ _ (later.same_style ∙ c.requires.style) was same next c.requires.counted (c.in-Ok.ensures.due rest rest held was is)
     (subst (λ (l : List Run). IsTileSet l) c.as_slice-runs.ensures.runs c.as_slice-runs.ensures.tiles)
     (subst (λ (l : List Entry). AreIdEntries l) c.entries.ensures.entries c.known_ids.ensures)
@@ -206,7 +206,7 @@ pub returns-in-Ok-settle-clause-ends : goal.returns-in-Ok-settle-clause-ends
 returns-in-Ok-settle-clause-ends g c =
     let later = c.change_maps.ensures.goes.looked _ (later_same _) in
     append_ends c.args.bounds.now c.args.change.now c.args.number (buckets_of c.args.maps.now) c.load_due.new.buckets
-    (buckets_of c.change_maps.new.store) c.settle.new.buckets c.change_maps.new.due _ c.in-Ok.ensures.runs.looks later.looks
+    (buckets_of c.change_maps.new.store) c.settle.new.buckets c.change_maps.new.due _ c.in-Ok.ensures.goes.runs.looks later.looks
     c.in-Ok-settle.ensures.commits
 
 pub returns-clause-turns : goal.returns-clause-turns
@@ -220,7 +220,7 @@ returns-clause-turns g c held rest same was is style next =
     (c.in-Ok.ensures.has rest rest was) in
     let stand = maps_stand held rest is c.args.style.now style in
     append_turns held rest is c.args.style.now style c.args.limits.now c.args.bounds.now c.args.change.now c.args.number old mid
-    (buckets_of last) c.settle.new.buckets c.in-Ok.ensures.runs.looks later.looks c.change_maps.new.due _ c.in-Err-settle.ensures.commits
+    (buckets_of last) c.settle.new.buckets c.in-Ok.ensures.goes.runs.looks later.looks c.change_maps.new.due _ c.in-Err-settle.ensures.commits
     (style_in last) _ _ (later.same_style ∙ c.requires.style) was same next c.requires.counted (c.in-Ok.ensures.due rest rest held was is)
     (subst (λ (l : List Run). IsTileSet l) c.as_slice-runs.ensures.runs c.as_slice-runs.ensures.tiles)
     (subst (λ (l : List Entry). AreIdEntries l) c.entries.ensures.entries c.known_ids.ensures)
@@ -243,7 +243,7 @@ returns-in-Ok-settle-clause-reads g c held rest was is style unread may touched 
     let loads = c.in-Ok.ensures.reads in
     let only = c.change_maps.ensures.within under is.maps.maps held.objects keeps stand may touched
     (none_loaded may old mid (buckets_of last) c.settle.new.buckets unread loads) in
-    change_reads may old mid (buckets_of last) c.settle.new.buckets unread loads c.in-Ok.ensures.runs.looks later.looks
+    change_reads may old mid (buckets_of last) c.settle.new.buckets unread loads c.in-Ok.ensures.goes.runs.looks later.looks
     (later.reads going) only going
     (ap (λ (r : Root). r.buckets) (made.has.root ∙ made.root ∙ sym was.root))
     (c.in-Ok-settle.ensures.reads rest made.now made.has) pages rests
@@ -252,5 +252,5 @@ pub returns-clause-ends : goal.returns-clause-ends
 returns-clause-ends g c =
     let later = c.change_maps.ensures.goes.looked _ (later_same _) in
     append_ends c.args.bounds.now c.args.change.now c.args.number (buckets_of c.args.maps.now) c.load_due.new.buckets
-    (buckets_of c.change_maps.new.store) c.settle.new.buckets c.change_maps.new.due _ c.in-Ok.ensures.runs.looks later.looks
+    (buckets_of c.change_maps.new.store) c.settle.new.buckets c.change_maps.new.due _ c.in-Ok.ensures.goes.runs.looks later.looks
     c.in-Err-settle.ensures.commits

@@ -28,16 +28,16 @@ returns-in-Ok-clause-fields g c = (
 pub returns-in-Ok-clause-judged : goal.returns-in-Ok-clause-judged
 returns-in-Ok-clause-judged g c = λ image fits holds is.
     absurd (never_own image (g.D.Disk.view c.args.disk.now) (g.D.Disk.view c.with_tables.new.disk) c.args.found fits holds
-    c.with_tables.ensures.finds.stays is
+    c.with_tables.ensures.looks.finds.stays is
     (ap (λ (r : Root). is_following r) (sym c.root-root.ensures) ∙ sym c.if-is_following.ensures))
 
-pub returns-in-Err-clause-sound : goal.returns-in-Err-clause-sound
-returns-in-Err-clause-sound g c = c.in-Err.ensures.sound
+pub returns-in-Err-clause-looks : goal.returns-in-Err-clause-looks
+returns-in-Err-clause-looks g c = record { finds = search rules; sound = c.in-Err.ensures.looks.sound }
 
 pub returns-in-Err-clause-judged : goal.returns-in-Err-clause-judged
 returns-in-Err-clause-judged g c = λ image fits holds is.
     absurd (never_own image (g.D.Disk.view c.args.disk.now) (g.D.Disk.view c.with_tables.new.disk) c.args.found fits holds
-    c.with_tables.ensures.finds.stays is
+    c.with_tables.ensures.looks.finds.stays is
     (ap (λ (r : Root). is_following r) (sym c.root-root.ensures) ∙ sym c.if-is_following.ensures))
 
 -- any other
@@ -45,19 +45,19 @@ pub returns-in-Ok-styled-clause-judged : goal.returns-in-Ok-styled-clause-judged
 returns-in-Ok-styled-clause-judged g c = λ image fits holds is. record {
   answer = refl;
   found = opened_sound image (g.D.Disk.view c.args.disk.now) (g.D.Disk.view c.styled.new.disk) c.args.found fits holds
-      c.styled.ensures.finds.stays is c.in-Ok-styled.opened c.in-Ok-styled.ensures.fits c.in-Ok-styled.ensures.fields
+      c.styled.ensures.looks.finds.stays is c.in-Ok-styled.opened c.in-Ok-styled.ensures.fits c.in-Ok-styled.ensures.fields
       c.in-Ok-styled.ensures.style;
 }
 
-pub returns-in-Err-styled-clause-sound : goal.returns-in-Err-styled-clause-sound
-returns-in-Err-styled-clause-sound g c = c.in-Err-styled.ensures.sound
+pub returns-in-Err-styled-clause-looks : goal.returns-in-Err-styled-clause-looks
+returns-in-Err-styled-clause-looks g c = record { finds = search rules; sound = c.in-Err-styled.ensures.looks.sound }
 
 pub returns-in-Err-styled-clause-judged : goal.returns-in-Err-styled-clause-judged
 returns-in-Err-styled-clause-judged g c = λ image fits holds is.
     let sound : AreSound fits.pages = pages_sound image (g.D.Disk.view c.args.disk.now) (g.D.Disk.view c.styled.new.disk) c.args.found fits
-    holds c.styled.ensures.finds.stays is in
+    holds c.styled.ensures.looks.finds.stays is in
     record {
-      answer = never_bad c.in-Err-styled.fault (Some c.in-Err-styled.fault ≡ None) c.in-Err-styled.ensures.finds.alone
+      answer = never_bad c.in-Err-styled.fault (Some c.in-Err-styled.fault ≡ None) c.in-Err-styled.ensures.looks.finds.alone
           (λ page same. (c.in-Err-styled.ensures.bad page (ap (λ (f : FlowFault). Err f) same) fits).0 sound);
       found = tt;
     }

@@ -19,12 +19,15 @@ pub returns-then-is_blank-clause-fields : goal.returns-then-is_blank-clause-fiel
 returns-then-is_blank-clause-fields g c =
     made_fields _ (ap (λ (r : Root). is_blank r) (sym c.root-root.ensures) ∙ sym c.if-is_blank.ensures)
 
-pub returns-then-is_blank-clause-finds : goal.returns-then-is_blank-clause-finds
-returns-then-is_blank-clause-finds g c = record {
-  alone = search rules;
-  stays = search rules;
-  once = λ state fits holds. style_unread state (g.D.Disk.view c.args.disk.now) holds;
-  cause = search rules;
+pub returns-then-is_blank-clause-looks : goal.returns-then-is_blank-clause-looks
+returns-then-is_blank-clause-looks g c = record {
+  finds = record {
+    alone = search rules;
+    stays = search rules;
+    once = λ state fits holds. style_unread state (g.D.Disk.view c.args.disk.now) holds;
+    cause = search rules;
+  };
+  sound = search rules;
 }
 
 pub returns-then-is_blank-clause-taken : goal.returns-then-is_blank-clause-taken
@@ -50,8 +53,8 @@ pub returns-in-Ok-clause-taken : goal.returns-in-Ok-clause-taken
 returns-in-Ok-clause-taken g c = λ begun.
     absurd (own_apart (opened_root c.args.found) (ap (λ (r : Root). is_following r) (sym c.root-root.ensures) ∙ sym c.if-is_following.ensures) (inr begun))
 
-pub returns-in-Err-clause-sound : goal.returns-in-Err-clause-sound
-returns-in-Err-clause-sound g c = c.in-Err.ensures.sound
+pub returns-in-Err-clause-looks : goal.returns-in-Err-clause-looks
+returns-in-Err-clause-looks g c = record { finds = search rules; sound = c.in-Err.ensures.looks.sound }
 
 pub returns-in-Err-clause-taken : goal.returns-in-Err-clause-taken
 returns-in-Err-clause-taken g c = λ begun.
@@ -66,12 +69,15 @@ returns-then-is_imported-clause-found g c = λ fits state holds.
 pub returns-then-is_imported-clause-fields : goal.returns-then-is_imported-clause-fields
 returns-then-is_imported-clause-fields g c = inl (ap (λ (r : Root). is_imported r) (sym c.root-root.ensures) ∙ sym c.if-is_imported.ensures)
 
-pub returns-then-is_imported-clause-finds : goal.returns-then-is_imported-clause-finds
-returns-then-is_imported-clause-finds g c = record {
-  alone = search rules;
-  stays = search rules;
-  once = λ state fits holds. style_unread state (g.D.Disk.view c.args.disk.now) holds;
-  cause = search rules;
+pub returns-then-is_imported-clause-looks : goal.returns-then-is_imported-clause-looks
+returns-then-is_imported-clause-looks g c = record {
+  finds = record {
+    alone = search rules;
+    stays = search rules;
+    once = λ state fits holds. style_unread state (g.D.Disk.view c.args.disk.now) holds;
+    cause = search rules;
+  };
+  sound = search rules;
 }
 
 pub returns-then-is_old-clause-found : goal.returns-then-is_old-clause-found
@@ -82,19 +88,25 @@ returns-then-is_old-clause-found g c = λ fits state holds.
 pub returns-then-is_old-clause-fields : goal.returns-then-is_old-clause-fields
 returns-then-is_old-clause-fields g c = inr (ap (λ (r : Root). is_old r) (sym c.root-root.ensures) ∙ sym c.if-is_old.ensures)
 
-pub returns-then-is_old-clause-finds : goal.returns-then-is_old-clause-finds
-returns-then-is_old-clause-finds g c = record {
-  alone = search rules;
-  stays = search rules;
-  once = λ state fits holds. style_unread state (g.D.Disk.view c.args.disk.now) holds;
-  cause = search rules;
+pub returns-then-is_old-clause-looks : goal.returns-then-is_old-clause-looks
+returns-then-is_old-clause-looks g c = record {
+  finds = record {
+    alone = search rules;
+    stays = search rules;
+    once = λ state fits holds. style_unread state (g.D.Disk.view c.args.disk.now) holds;
+    cause = search rules;
+  };
+  sound = search rules;
 }
 
 -- neither
-pub returns-clause-sound : goal.returns-clause-sound
-returns-clause-sound g c = λ fits state holds.
-    is_one state (g.D.Disk.view c.args.disk.now) c.args.found c.root-root.result c.root-root.ensures (sym c.if-is_blank.ensures)
-    (sym c.if-is_old.ensures) (sym c.if-is_imported.ensures) (sym c.if-is_following.ensures) fits holds
+pub returns-clause-looks : goal.returns-clause-looks
+returns-clause-looks g c = record {
+  finds = search rules;
+  sound = λ fits state holds.
+      is_one state (g.D.Disk.view c.args.disk.now) c.args.found c.root-root.result c.root-root.ensures (sym c.if-is_blank.ensures)
+      (sym c.if-is_old.ensures) (sym c.if-is_imported.ensures) (sym c.if-is_following.ensures) fits holds;
+}
 
 pub returns-clause-taken : goal.returns-clause-taken
 returns-clause-taken g c = λ begun.

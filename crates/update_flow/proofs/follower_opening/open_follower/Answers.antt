@@ -46,7 +46,7 @@ returns-in-Ok-clause-any g c = record {
   untouched = search rules;
   told = λ told no.
       let mid = c.in-Ok.ensures.leaves.told told.0 told.1 refl in
-      (mid.0, c.based.ensures.finds.stays.content ∙ mid.1);
+      (mid.0, c.based.ensures.looks.finds.stays.content ∙ mid.1);
   bad = λ page is bytes told. record {
     formed = (c.in-Ok.ensures.answers bytes told).1.formatted;
     none = λ state stands.
@@ -56,14 +56,14 @@ returns-in-Ok-clause-any g c = record {
           holds = c.in-Ok.ensures.image.found bytes told stands.0 stands.2;
           means = stands.1;
         } in
-        bad_none (Option Base) c.based.result page is (c.based.ensures.sound (c.in-Ok.ensures.fits bytes told) state holds);
+        bad_none (Option Base) c.based.result page is (c.based.ensures.looks.sound (c.in-Ok.ensures.fits bytes told) state holds);
   };
   same = λ bytes told shut.
-      c.based.ensures.finds.stays.content ∙ (c.open.ensures.leaves.looked bytes told
+      c.based.ensures.looks.finds.stays.content ∙ (c.open.ensures.leaves.looked bytes told
       (λ (opened : HasOpenJournal bytes). shut opened.is_open)).content;
   looked = λ bytes told shut.
       stays_then (g.D.Disk.view c.args.disk.now) (g.D.Disk.view c.open.new.disk) (g.D.Disk.view c.based.new.disk)
-      (c.open.ensures.leaves.looked bytes told shut) c.based.ensures.finds.stays;
+      (c.open.ensures.leaves.looked bytes told shut) c.based.ensures.looks.finds.stays;
   cause = search rules;
 }
 
@@ -103,8 +103,8 @@ returns-in-Ok-clause-reads g c = λ bytes state told stands.
       means =
           stands.1;
     } in
-    opens_as state mid (g.D.Disk.view c.based.new.disk) (result_err c.based.result) holds c.based.ensures.finds.stays
-    (c.based.ensures.sound (c.in-Ok.ensures.fits bytes told) state holds)
+    opens_as state mid (g.D.Disk.view c.based.new.disk) (result_err c.based.result) holds c.based.ensures.looks.finds.stays
+    (c.based.ensures.looks.sound (c.in-Ok.ensures.fits bytes told) state holds)
 
 pub returns-in-Ok-clause-opens : goal.returns-in-Ok-clause-opens
 unfolding StandsFor
@@ -123,8 +123,8 @@ returns-in-Ok-clause-opens g c = λ one other either.
       | inl stands ↦ inl (here one stands)
       | inr stands ↦ inr (here other stands)
     ] in
-    opens_either one other old mid new (result_err c.based.result) holds c.based.ensures.finds.stays
-    (c.based.ensures.sound (c.in-Ok.ensures.fits bytes told)) goes
+    opens_either one other old mid new (result_err c.based.result) holds c.based.ensures.looks.finds.stays
+    (c.based.ensures.looks.sound (c.in-Ok.ensures.fits bytes told)) goes
 
 pub returns-in-Ok-clause-found : goal.returns-in-Ok-clause-found
 returns-in-Ok-clause-found g c =
@@ -135,7 +135,7 @@ returns-in-Ok-clause-found g c =
     (λ based. IsTold (g.D.Disk.view c.args.disk.now).content → (state : State) → IsAt state new → FoundBaseIn state new based)
     (λ opened own told state at.
     let fits = c.in-Ok.ensures.fits told.0 told.1 in
-    own fits state (state_before state mid new c.in-Ok.found fits c.based.ensures.finds.stays at))
+    own fits state (state_before state mid new c.in-Ok.found fits c.based.ensures.looks.finds.stays at))
     c.based.ensures.found
 
 pub returns-in-Err-clause-reads : goal.returns-in-Err-clause-reads
@@ -174,7 +174,7 @@ returns-in-Ok-clause-sound g c = λ bytes told sound.
     let fits = c.in-Ok.ensures.fits bytes told in
     based_sound sound.image mid (g.D.Disk.view c.based.new.disk) c.in-Ok.found fits
     (c.in-Ok.ensures.image.found bytes told sound.image sound.has)
-    c.based.ensures.finds.stays sound.is c.based.result (c.based.ensures.sound fits) c.based.ensures.found c.based.ensures.taken
+    c.based.ensures.looks.finds.stays sound.is c.based.result (c.based.ensures.looks.sound fits) c.based.ensures.found c.based.ensures.taken
 
 pub returns-in-Err-clause-sound : goal.returns-in-Err-clause-sound
 returns-in-Err-clause-sound g c = λ bytes told sound. record {

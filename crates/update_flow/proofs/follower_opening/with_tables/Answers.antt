@@ -23,23 +23,26 @@ returns-in-Ok-clause-found g c = λ fits state holds.
 pub returns-in-Ok-clause-styled : goal.returns-in-Ok-clause-styled
 returns-in-Ok-clause-styled g c = (c.in-Ok.ensures.styled.styled, c.in-Ok.ensures.styled.changes_are)
 
-pub returns-in-Ok-clause-finds : goal.returns-in-Ok-clause-finds
-returns-in-Ok-clause-finds g c = record {
-  alone = search rules;
-  stays = c.with_style.ensures.finds.stays;
-  once = c.in-Ok.ensures.finds.once;
-  cause = search rules;
+pub returns-in-Ok-clause-looks : goal.returns-in-Ok-clause-looks
+returns-in-Ok-clause-looks g c = record {
+  finds = record {
+    alone = search rules;
+    stays = c.with_style.ensures.finds.stays;
+    once = c.in-Ok.ensures.finds.once;
+    cause = search rules;
+  };
+  sound = search rules;
 }
 
-pub returns-in-Err-clause-sound : goal.returns-in-Err-clause-sound
-returns-in-Err-clause-sound g c = λ fits state holds.
-    let is = own_state state (own_found state (g.D.Disk.view c.args.disk.now) c.args.found c.requires.own fits holds) in
-    c.in-Err.ensures.sound fits state holds is.0 is.1
-
-pub returns-in-Err-clause-finds : goal.returns-in-Err-clause-finds
-returns-in-Err-clause-finds g c = record {
-  alone = c.in-Err.ensures.finds.alone;
-  stays = c.with_style.ensures.finds.stays;
-  once = search rules;
-  cause = search rules;
+pub returns-in-Err-clause-looks : goal.returns-in-Err-clause-looks
+returns-in-Err-clause-looks g c = record {
+  finds = record {
+    alone = c.in-Err.ensures.finds.alone;
+    stays = c.with_style.ensures.finds.stays;
+    once = search rules;
+    cause = search rules;
+  };
+  sound = λ fits state holds.
+      let is = own_state state (own_found state (g.D.Disk.view c.args.disk.now) c.args.found c.requires.own fits holds) in
+      c.in-Err.ensures.sound fits state holds is.0 is.1;
 }

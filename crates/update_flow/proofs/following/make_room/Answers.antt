@@ -1,5 +1,5 @@
 -- The store had no buckets, or its rows are taken out.
-use Rattle.std.proofs.Common.{◌∙◌, Some, ap, sym, subst, arith}
+use Rattle.std.proofs.Common.{◌∙◌, Some, ap, rules, sym, subst, arith}
 use Rattle.chain_store.specs.declared.root.Root.{Root}
 use Rattle.bucket_store.specs.Image.{with_buckets, with_root}
 use Rattle.row_store.specs.Clearing.{without_rows}
@@ -33,16 +33,21 @@ returns-in-Err-clause-sound g c rest now has =
     subst (λ (f : FlowFault). IsSound (Some f)) (sym c.store_fault.ensures)
     (sound_store (Unit {0}) c.in-Err.fault (c.in-Err.ensures.sound rest now has))
 
-pub returns-in-Ok-clause-runs : goal.returns-in-Ok-clause-runs
-returns-in-Ok-clause-runs g c =
-    runs_done c.args.buckets.now c.clear.new.buckets c.in-Ok.ensures.looks.same c.requires.ready.whole c.in-Ok.ensures.looks.broken
+pub returns-in-Ok-clause-goes : goal.returns-in-Ok-clause-goes
+returns-in-Ok-clause-goes g c = record {
+  going = search rules;
+  runs = runs_done c.args.buckets.now c.clear.new.buckets c.in-Ok.ensures.looks.same c.requires.ready.whole c.in-Ok.ensures.looks.broken;
+}
 
-pub returns-in-Err-clause-runs : goal.returns-in-Err-clause-runs
-returns-in-Err-clause-runs g c =
+pub returns-in-Err-clause-goes : goal.returns-in-Err-clause-goes
+returns-in-Err-clause-goes g c =
     let looks = c.in-Err.ensures.looks in
-    subst (λ (f : FlowFault). Runs c.args.buckets.now c.clear.new.buckets (Some f)) (sym c.store_fault.ensures)
-    (runs_refused c.args.buckets.now c.clear.new.buckets looks.same c.requires.ready.whole (Unit {0}) c.in-Err.fault looks.alone
-    looks.broken looks.cause)
+    record {
+      going = search rules;
+      runs = subst (λ (f : FlowFault). Runs c.args.buckets.now c.clear.new.buckets (Some f)) (sym c.store_fault.ensures)
+          (runs_refused c.args.buckets.now c.clear.new.buckets looks.same c.requires.ready.whole (Unit {0}) c.in-Err.fault looks.alone
+          looks.broken looks.cause);
+    }
 
 pub returns-in-Ok-clause-some : goal.returns-in-Ok-clause-some
 returns-in-Ok-clause-some g c =

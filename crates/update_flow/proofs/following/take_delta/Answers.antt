@@ -24,12 +24,18 @@ pub returns-then-root-eq0-clause-ends : goal.returns-then-root-eq0-clause-ends
 returns-then-root-eq0-clause-ends g c = runs_ended _ c.args.buckets.now c.args.buckets.now
     (runs_unfit c.args.buckets.now 1 c.requires.ready.whole)
 
+pub take_rows-requires-clause-filled : goal.take_rows-requires-clause-filled
+take_rows-requires-clause-filled g c = record {
+  ready = c.requires.ready;
+  some = omega (arith, c.if-root-eq0.false, ap (λ (r : Root). r.buckets) c.root.ensures);
+}
+
 pub take_rows-requires-clause-fit : goal.take_rows-requires-clause-fit
 take_rows-requires-clause-fit g c = rising_fit c.args.style.now.tables None c.args.delta.changes c.requires.block.rising
 
 pub finish_delta-requires : goal.finish_delta-requires
 finish_delta-requires g c = record {
-  ready = record { going = c.in-Ok.ensures.going; whole = c.in-Ok.ensures.runs.whole tt };
+  ready = record { going = c.in-Ok.ensures.goes.going; whole = c.in-Ok.ensures.goes.runs.whole tt };
 }
 
 pub returns-in-Ok-clause-turns : goal.returns-in-Ok-clause-turns
@@ -42,7 +48,7 @@ returns-in-Ok-clause-turns g c limits held rest same has is styled next =
     (subst (λ (s : StyleOf). HoldsTables s.tables rest.maps held.tables) styled is.tables) in
     let holds : HoldsTables held.style.tables made.later.maps all =
     subst (λ (s : StyleOf). HoldsTables s.tables made.later.maps all) (sym styled) made.holds in
-    let looks = c.in-Ok.ensures.runs.looks in
+    let looks = c.in-Ok.ensures.goes.runs.looks in
     turns_committed limits (following held) (Follow (blocks.Delta delta)) (result_err c.finish_delta.result) rest _ old mid
     c.finish_delta.new.buckets (rests_under rest rest old has) is looks
     (subst (λ (h : Following). IsFollowing h (versioned delta.version made.later))
@@ -53,7 +59,7 @@ returns-in-Ok-clause-turns g c limits held rest same has is styled next =
 pub returns-in-Ok-clause-ends : goal.returns-in-Ok-clause-ends
 returns-in-Ok-clause-ends g c =
     ends_then (result_err c.finish_delta.result) c.args.buckets.now c.take_rows.new.buckets c.finish_delta.new.buckets
-    c.in-Ok.ensures.runs.looks (c.finish_delta.ensures.commits.ends (Follow (blocks.Delta c.args.delta)))
+    c.in-Ok.ensures.goes.runs.looks (c.finish_delta.ensures.commits.ends (Follow (blocks.Delta c.args.delta)))
 
 pub returns-in-Err-clause-turns : goal.returns-in-Err-clause-turns
 returns-in-Err-clause-turns g c limits held rest same has is styled next =
@@ -62,7 +68,7 @@ returns-in-Err-clause-turns g c limits held rest same has is styled next =
     let sound = c.in-Err.ensures.sound rest rest held.tables has
     (subst (λ (s : StyleOf). HoldsTables s.tables rest.maps held.tables) styled is.tables) in
     turns_refused limits (following held) (Follow (blocks.Delta c.args.delta)) fault rest old c.take_rows.new.buckets
-    (rests_under rest rest old has) is c.in-Err.ensures.runs.looks (sound_answers limits fault _ sound) (sound_fits limits _ fault sound)
+    (rests_under rest rest old has) is c.in-Err.ensures.goes.runs.looks (sound_answers limits fault _ sound) (sound_fits limits _ fault sound)
 
 pub returns-in-Err-clause-ends : goal.returns-in-Err-clause-ends
-returns-in-Err-clause-ends g c = runs_ended _ c.args.buckets.now c.take_rows.new.buckets c.in-Err.ensures.runs
+returns-in-Err-clause-ends g c = runs_ended _ c.args.buckets.now c.take_rows.new.buckets c.in-Err.ensures.goes.runs

@@ -30,9 +30,9 @@ loop-n-preserved g c =
     let new = c.is_unused_empty.new.buckets in
     record {
       few = omega (arith, c.loop-n-test.true);
-      going = record { going = own.reads.going; whole = own.runs.whole tt };
-      runs = runs_then old mid new None inv.runs own.runs;
-      reads = reads_then old mid new inv.reads own.reads;
+      going = record { going = own.reads.only.going; whole = own.reads.runs.whole tt };
+      runs = runs_then old mid new None inv.runs own.reads.runs;
+      reads = reads_then old mid new inv.reads own.reads.only;
       opens = λ pages opens. c.is_unused_empty.ensures.open pages (inv.opens pages opens);
       chains = λ pages opens none. chains_next pages (kept_of (chains_of old)) (kept_of (chains_of mid)) c.loop-n.n
           inv.reads.stays.kept

@@ -1,5 +1,5 @@
 -- A text that is to be empty is looked at.
-use Rattle.std.proofs.Common.{◌∙◌, Bool, sym}
+use Rattle.std.proofs.Common.{◌∙◌, Bool, rules, sym}
 use Rattle.update_flow.proofs.Judgements.{empty_at, fault_at, only_read, rooted_at, unused_is, used_not}
 use Rattle.update_flow.proofs.judging.is_unused_empty.Goals as goal
 
@@ -10,7 +10,7 @@ pub returns-then-is_used-clause-chain : goal.returns-then-is_used-clause-chain
 returns-then-is_used-clause-chain g c = λ pages opens none unused. absurd (used_not c.args.n c.if-is_used.ensures unused)
 
 pub returns-then-is_used-clause-reads : goal.returns-then-is_used-clause-reads
-returns-then-is_used-clause-reads g c = only_read c.args.buckets.now c.requires.ready.going
+returns-then-is_used-clause-reads g c = record { only = only_read c.args.buckets.now c.requires.ready.going; runs = search rules }
 
 pub returns-in-Ok-clause-tells : goal.returns-in-Ok-clause-tells
 returns-in-Ok-clause-tells g c = λ rest was.

@@ -17,14 +17,14 @@ returns-in-Err-clause-exact g c = λ image has empty made.
 
 pub returns-in-Err-is_empty-clause-exact : goal.returns-in-Err-is_empty-clause-exact
 returns-in-Err-is_empty-clause-exact g c = λ image has empty made.
-    let later = c.in-Ok.ensures.reads.has image has in
+    let later = c.in-Ok.ensures.reads.only.has image has in
     refusal_judges Bool (kept_of (chains_of c.args.buckets.now)) image c.in-Err-is_empty.fault (λ at is.
     absurd (text_sound c.is_empty.new.buckets image DUE_TEXT at later (omega arith)
     (c.in-Err-is_empty.ensures.refused at is later.pages later.opens)))
 
 pub returns-clause-exact : goal.returns-clause-exact
 returns-clause-exact g c = λ image has empty made.
-    let later = c.in-Ok.ensures.reads.has image has in
+    let later = c.in-Ok.ensures.reads.only.has image has in
     let kept = kept_of (chains_of c.args.buckets.now) in
     let whole : c.is_whole.result ≡ (c.args.empty && (c.in-Ok.styleless && (c.in-Ok-is_empty.dueless && nat_le image.root.changes LAST_CHANGE))) =
     c.is_whole.ensures ∙ ap (λ (r : Root). c.args.empty && (c.in-Ok.styleless && (c.in-Ok-is_empty.dueless && nat_le r.changes LAST_CHANGE)))

@@ -11,9 +11,11 @@ use Rattle.update_flow.proofs.Judgements.{dueless_judged, ended_judged, refusal_
 use Rattle.update_flow.proofs.judging.judge_import.Goals as goal
 
 -- the style was only read
-pub judge_values-requires-clause-unwritten : goal.judge_values-requires-clause-unwritten
-judge_values-requires-clause-unwritten g c =
-    unwritten_later c.args.buckets.now c.load_style.new.buckets c.in-Ok.ensures.looks.only.stays c.requires.unwritten
+pub judge_values-requires-clause-may : goal.judge_values-requires-clause-may
+judge_values-requires-clause-may g c = record {
+  ready = record { going = c.in-Ok.ensures.looks.only.going; whole = c.in-Ok.ensures.runs.whole tt };
+  unwritten = unwritten_later c.args.buckets.now c.load_style.new.buckets c.in-Ok.ensures.looks.only.stays c.requires.may.unwritten;
+}
 
 pub returns-in-Err-clause-exact : goal.returns-in-Err-clause-exact
 returns-in-Err-clause-exact g c = λ image has empty begun.
@@ -36,13 +38,13 @@ returns-in-Err-judge_due-clause-exact g c = λ image has empty begun.
     refusal_judges (Unit {0}) kept image c.in-Err-judge_due.fault (λ at is.
     dueless_judged kept image begun c.in-Ok.style (c.in-Ok.ensures.style image image has) at
     (c.in-Ok-judge_values.ensures.right image later)
-    (c.in-Err-judge_due.ensures.none at is image (c.in-Ok-judge_values.ensures.reads.has image later)))
+    (c.in-Err-judge_due.ensures.none at is image (c.in-Ok-judge_values.ensures.reads.only.has image later)))
 
 pub returns-clause-exact : goal.returns-clause-exact
 returns-clause-exact g c = λ image has empty begun.
     let kept = kept_of (chains_of c.args.buckets.now) in
     let later = c.in-Ok.ensures.looks.only.has image has in
-    let due = c.in-Ok-judge_due.ensures.due image (c.in-Ok-judge_values.ensures.reads.has image later) in
+    let due = c.in-Ok-judge_due.ensures.due image (c.in-Ok-judge_values.ensures.reads.only.has image later) in
     subst (λ (f : Option FlowFault). JudgesImage kept image f) (sym c.unless_bad.ensures)
     (ended_judged kept image begun c.in-Ok.style (c.in-Ok.ensures.style image image has) has.pages
     (record { strings = has.strings; state = has.state; spells = has.spells })

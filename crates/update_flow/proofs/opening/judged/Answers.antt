@@ -14,17 +14,20 @@ returns-then-is_following-clause-found g c = λ fits state holds.
     own_found state (g.D.Disk.view c.args.disk.now) c.args.found
     (ap (λ (r : Root). is_following r) (sym c.root.ensures) ∙ sym c.if-is_following.ensures) fits holds
 
-pub returns-then-is_following-clause-finds : goal.returns-then-is_following-clause-finds
-returns-then-is_following-clause-finds g c = record {
-  alone = search rules;
-  stays = search rules;
-  once = λ state fits holds. style_unread state (g.D.Disk.view c.args.disk.now) holds;
-  cause = search rules;
+pub returns-then-is_following-clause-looks : goal.returns-then-is_following-clause-looks
+returns-then-is_following-clause-looks g c = record {
+  finds = record {
+    alone = search rules;
+    stays = search rules;
+    once = λ state fits holds. style_unread state (g.D.Disk.view c.args.disk.now) holds;
+    cause = search rules;
+  };
+  sound = search rules;
 }
 
 -- a refusal
-pub returns-in-Err-clause-sound : goal.returns-in-Err-clause-sound
-returns-in-Err-clause-sound g c = c.in-Err.ensures.sound
+pub returns-in-Err-clause-looks : goal.returns-in-Err-clause-looks
+returns-in-Err-clause-looks g c = record { finds = search rules; sound = c.in-Err.ensures.looks.sound }
 
 pub returns-in-Err-clause-bad : goal.returns-in-Err-clause-bad
 returns-in-Err-clause-bad g c = λ at is.

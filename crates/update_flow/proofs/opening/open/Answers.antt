@@ -53,7 +53,7 @@ returns-in-Ok-clause-any g c = record {
   untouched = search rules;
   told = λ told no.
       let mid = c.in-Ok.ensures.leaves.told told.0 told.1 refl in
-      (mid.0, c.judged.ensures.finds.stays.content ∙ mid.1);
+      (mid.0, c.judged.ensures.looks.finds.stays.content ∙ mid.1);
   bad = λ page is bytes told. record {
     formed = (c.in-Ok.ensures.answers bytes told).1.formatted;
     none = λ state stands.
@@ -63,14 +63,14 @@ returns-in-Ok-clause-any g c = record {
           holds = c.in-Ok.ensures.image.found bytes told stands.0 stands.2;
           means = stands.1;
         } in
-        bad_none (Option Opened) c.judged.result page is (c.judged.ensures.sound (c.in-Ok.ensures.fits bytes told) state holds);
+        bad_none (Option Opened) c.judged.result page is (c.judged.ensures.looks.sound (c.in-Ok.ensures.fits bytes told) state holds);
   };
   same = λ bytes told shut.
-      c.judged.ensures.finds.stays.content ∙ (c.open.ensures.leaves.looked bytes told
+      c.judged.ensures.looks.finds.stays.content ∙ (c.open.ensures.leaves.looked bytes told
       (λ (opened : HasOpenJournal bytes). shut opened.is_open)).content;
   looked = λ bytes told shut.
       stays_then (g.D.Disk.view c.args.disk.now) (g.D.Disk.view c.open.new.disk) (g.D.Disk.view c.judged.new.disk)
-      (c.open.ensures.leaves.looked bytes told shut) c.judged.ensures.finds.stays;
+      (c.open.ensures.leaves.looked bytes told shut) c.judged.ensures.looks.finds.stays;
   cause = search rules;
 }
 
@@ -110,8 +110,8 @@ returns-in-Ok-clause-reads g c = λ bytes state told stands.
       means =
           stands.1;
     } in
-    opens_as state mid (g.D.Disk.view c.judged.new.disk) (result_err c.judged.result) holds c.judged.ensures.finds.stays
-    (c.judged.ensures.sound (c.in-Ok.ensures.fits bytes told) state holds)
+    opens_as state mid (g.D.Disk.view c.judged.new.disk) (result_err c.judged.result) holds c.judged.ensures.looks.finds.stays
+    (c.judged.ensures.looks.sound (c.in-Ok.ensures.fits bytes told) state holds)
 
 pub returns-in-Ok-clause-opens : goal.returns-in-Ok-clause-opens
 unfolding StandsFor
@@ -130,8 +130,8 @@ returns-in-Ok-clause-opens g c = λ one other either.
       | inl stands ↦ inl (here one stands)
       | inr stands ↦ inr (here other stands)
     ] in
-    opens_either one other old mid new (result_err c.judged.result) holds c.judged.ensures.finds.stays
-    (c.judged.ensures.sound (c.in-Ok.ensures.fits bytes told)) goes
+    opens_either one other old mid new (result_err c.judged.result) holds c.judged.ensures.looks.finds.stays
+    (c.judged.ensures.looks.sound (c.in-Ok.ensures.fits bytes told)) goes
 
 pub returns-in-Ok-clause-found : goal.returns-in-Ok-clause-found
 returns-in-Ok-clause-found g c =
@@ -142,7 +142,7 @@ returns-in-Ok-clause-found g c =
     (λ judged. IsTold (g.D.Disk.view c.args.disk.now).content → (state : State) → IsAt state new → FoundIn state new judged)
     (λ opened own told state at.
     let fits = c.in-Ok.ensures.fits told.0 told.1 in
-    own fits state (state_before state mid new c.in-Ok.found fits c.judged.ensures.finds.stays at))
+    own fits state (state_before state mid new c.in-Ok.found fits c.judged.ensures.looks.finds.stays at))
     c.judged.ensures.found
 
 pub returns-in-Err-clause-reads : goal.returns-in-Err-clause-reads
@@ -194,7 +194,7 @@ returns-in-Ok-clause-once g c =
     opens_then bytes old mid new c.in-Ok.found told
     (c.open.ensures.leaves.looked bytes told (λ (opened : HasOpenJournal bytes). shut opened.is_open)) fits
     (c.in-Ok.ensures.reads bytes told shut) (reads state fits holds))
-    c.judged.ensures.finds.once
+    c.judged.ensures.looks.finds.once
 
 -- what was read is so there, or refused at the page that is blamed first
 pub returns-in-Ok-clause-fits : goal.returns-in-Ok-clause-fits
@@ -238,7 +238,7 @@ returns-in-Ok-clause-sound g c = λ bytes told sound.
     let home = c.in-Ok.ensures.home bytes told in
     let here = same_home bytes home.0 before.pages mid home.1 home.2 before.rests in
     judged_sound sound.image mid new c.in-Ok.found before (c.in-Ok.ensures.image.found bytes told sound.image sound.has)
-    c.judged.ensures.finds.stays sound.is c.judged.result c.judged.ensures.finds.alone
+    c.judged.ensures.looks.finds.stays sound.is c.judged.result c.judged.ensures.looks.finds.alone
     (λ page is. (c.judged.ensures.bad page is before).0 (home_of_sound bytes before.pages here sound))
     c.judged.ensures.fits c.judged.ensures.fields c.judged.ensures.style
 

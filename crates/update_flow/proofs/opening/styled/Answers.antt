@@ -22,12 +22,15 @@ returns-then-is_blank-clause-fields g c = record {
   count = λ is. absurd (cc (is));
 }
 
-pub returns-then-is_blank-clause-finds : goal.returns-then-is_blank-clause-finds
-returns-then-is_blank-clause-finds g c = record {
-  alone = search rules;
-  stays = search rules;
-  once = λ state fits holds. style_unread state (g.D.Disk.view c.args.disk.now) holds;
-  cause = search rules;
+pub returns-then-is_blank-clause-looks : goal.returns-then-is_blank-clause-looks
+returns-then-is_blank-clause-looks g c = record {
+  finds = record {
+    alone = search rules;
+    stays = search rules;
+    once = λ state fits holds. style_unread state (g.D.Disk.view c.args.disk.now) holds;
+    cause = search rules;
+  };
+  sound = search rules;
 }
 
 -- an old store
@@ -42,10 +45,12 @@ returns-then-is_old-clause-fields g c =
     fields_of c.root-root.result _ true c.with_style.result c.root-root.ensures (λ _. sym c.if-is_old.ensures) (λ is. absurd (cc (is)))
     c.with_style.ensures.styled
 
-pub returns-then-is_old-clause-sound : goal.returns-then-is_old-clause-sound
-returns-then-is_old-clause-sound g c =
-    sound_of c.root-root.result (g.D.Disk.view c.args.disk.now) c.args.found true (result_err c.with_style.result)
-    c.root-root.ensures (sym c.if-is_blank.ensures) c.if-is_old.ensures c.with_style.ensures.sound
+pub returns-then-is_old-clause-looks : goal.returns-then-is_old-clause-looks
+returns-then-is_old-clause-looks g c = record {
+  finds = c.with_style.ensures.finds;
+  sound = sound_of c.root-root.result (g.D.Disk.view c.args.disk.now) c.args.found true (result_err c.with_style.result)
+      c.root-root.ensures (sym c.if-is_blank.ensures) c.if-is_old.ensures c.with_style.ensures.sound;
+}
 
 -- one of this format
 pub returns-then-is_imported-clause-found : goal.returns-then-is_imported-clause-found
@@ -61,17 +66,22 @@ returns-then-is_imported-clause-fields g c =
     (λ _. sym c.if-is_imported.ensures)
     c.with_style-then-is_imported.ensures.styled
 
-pub returns-then-is_imported-clause-sound : goal.returns-then-is_imported-clause-sound
-returns-then-is_imported-clause-sound g c =
-    sound_of c.root-root.result (g.D.Disk.view c.args.disk.now) c.args.found false (result_err c.with_style-then-is_imported.result)
-    c.root-root.ensures (sym c.if-is_blank.ensures) c.if-is_old.ensures c.with_style-then-is_imported.ensures.sound
+pub returns-then-is_imported-clause-looks : goal.returns-then-is_imported-clause-looks
+returns-then-is_imported-clause-looks g c = record {
+  finds = c.with_style-then-is_imported.ensures.finds;
+  sound = sound_of c.root-root.result (g.D.Disk.view c.args.disk.now) c.args.found false (result_err c.with_style-then-is_imported.result)
+      c.root-root.ensures (sym c.if-is_blank.ensures) c.if-is_old.ensures c.with_style-then-is_imported.ensures.sound;
+}
 
 -- neither
-pub returns-clause-sound : goal.returns-clause-sound
-returns-clause-sound g c = λ fits state holds.
-    is_one state (g.D.Disk.view c.args.disk.now) c.args.found c.root-root.result c.root-root.ensures (sym c.if-is_blank.ensures)
-    (sym c.if-is_old.ensures) (sym c.if-is_imported.ensures)
-    (ap (λ (r : Root). is_following r) c.root-root.ensures ∙ c.requires.own) fits holds
+pub returns-clause-looks : goal.returns-clause-looks
+returns-clause-looks g c = record {
+  finds = search rules;
+  sound = λ fits state holds.
+      is_one state (g.D.Disk.view c.args.disk.now) c.args.found c.root-root.result c.root-root.ensures (sym c.if-is_blank.ensures)
+      (sym c.if-is_old.ensures) (sym c.if-is_imported.ensures)
+      (ap (λ (r : Root). is_following r) c.root-root.ensures ∙ c.requires.own) fits holds;
+}
 
 -- which page is blamed
 pub returns-then-is_blank-clause-fits : goal.returns-then-is_blank-clause-fits

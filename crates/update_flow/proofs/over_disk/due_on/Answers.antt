@@ -22,9 +22,9 @@ returns-clause-looks g c =
     let new = c.load_due-due.new.buckets in
     let has = c.on-buckets.ensures.has holds.image fits holds.holds in
     looks_on fault old new c.hand_back-disk.new.kept (c.hand_back-disk.ensures.whole, c.hand_back-disk.ensures.fits)
-    (runs_ended {call = None} fault old new c.load_due-due.ensures.runs)
+    (runs_ended {call = None} fault old new c.load_due-due.ensures.goes.runs)
     (imported held) (looks_at held fault holds.image old new
-    (rests_under holds.image holds.image old has) holds.means c.load_due-due.ensures.runs.looks
+    (rests_under holds.image holds.image old has) holds.means c.load_due-due.ensures.goes.runs.looks
     (sound_answer fault (c.load_due-due.ensures.sound holds.image holds.image held has holds.means))) c.args.disk.now c.disk-1.given.0
     c.on-buckets.ensures.disk last
 
@@ -41,14 +41,14 @@ returns-clause-ends g c =
       ends_on (result_err c.load_due-due.result) c.on-buckets.result c.load_due-due.new.buckets c.hand_back-disk.new.kept
           (c.hand_back-disk.ensures.whole, c.hand_back-disk.ensures.fits)
           (runs_ended {call = None} (result_err c.load_due-due.result) c.on-buckets.result c.load_due-due.new.buckets
-          c.load_due-due.ensures.runs),
+          c.load_due-due.ensures.goes.runs),
     )
 
 pub returns-clause-stays : goal.returns-clause-stays
 returns-clause-stays g c =
     let last : disk_under (journal_of (chains_of c.load_due-due.new.buckets)) ≡ c.disk-1.given.0 = search rules in
     looked_stays c.on-buckets.result c.load_due-due.new.buckets c.args.disk.now c.disk-1.given.0 c.on-buckets.ensures.disk
-    (sym last) c.load_due-due.ensures.runs.looks
+    (sym last) c.load_due-due.ensures.goes.runs.looks
 
 -- a sound store
 pub returns-clause-sound : goal.returns-clause-sound
@@ -60,6 +60,6 @@ returns-clause-sound g c =
     let new = c.load_due-due.new.buckets in
     let has = c.on-buckets.ensures.has holds.image fits holds.holds in
     looked_on fault old new c.hand_back-disk.new.kept (c.hand_back-disk.ensures.whole, c.hand_back-disk.ensures.fits)
-    (runs_ended {call = None} fault old new c.load_due-due.ensures.runs)
-    (imported held) holds.image (rests_under holds.image holds.image old has) holds.is c.load_due-due.ensures.runs.looks
+    (runs_ended {call = None} fault old new c.load_due-due.ensures.goes.runs)
+    (imported held) holds.image (rests_under holds.image holds.image old has) holds.is c.load_due-due.ensures.goes.runs.looks
     (sound_answer fault (c.load_due-due.ensures.spelled holds.image holds.image held.due has holds.is.due)) c.disk-1.given.0 last

@@ -1,5 +1,5 @@
 -- The row is turned in the record of its key.
-use Rattle.std.proofs.Common.{Some, ap, sym, subst}
+use Rattle.std.proofs.Common.{Some, ap, rules, sym, subst}
 use Rattle.chain_store.specs.declared.root.Root.{Root}
 use Rattle.store_maps.specs.Asked.{row_key}
 use Rattle.update_flow.specs.Within.{IsSound, Runs}
@@ -23,9 +23,12 @@ returns-in-Ok-clause-taken g c rest now tables has holds =
 pub returns-in-Ok-clause-count : goal.returns-in-Ok-clause-count
 returns-in-Ok-clause-count g c = ap (λ (r : Root). r.buckets) c.in-Ok.ensures.touches.stays.root
 
-pub returns-in-Ok-clause-runs : goal.returns-in-Ok-clause-runs
-returns-in-Ok-clause-runs g c =
-    runs_done c.args.buckets.now c.set_row.new.buckets c.in-Ok.ensures.touches.same c.requires.ready.whole c.in-Ok.ensures.touches.broken
+pub returns-in-Ok-clause-goes : goal.returns-in-Ok-clause-goes
+returns-in-Ok-clause-goes g c = record {
+  going = search rules;
+  runs = runs_done c.args.buckets.now c.set_row.new.buckets c.in-Ok.ensures.touches.same c.requires.filled.ready.whole
+      c.in-Ok.ensures.touches.broken;
+}
 
 pub returns-in-Err-clause-count : goal.returns-in-Err-clause-count
 returns-in-Err-clause-count g c = ap (λ (r : Root). r.buckets) c.in-Err.ensures.touches.stays.root
@@ -35,9 +38,12 @@ returns-in-Err-clause-sound g c rest now tables has holds =
     subst (λ (f : FlowFault). IsSound (Some f)) (sym c.store_fault.ensures)
     (sound_store (Unit {0}) c.in-Err.fault (c.in-Err.ensures.row.sound rest now tables has holds))
 
-pub returns-in-Err-clause-runs : goal.returns-in-Err-clause-runs
-returns-in-Err-clause-runs g c =
+pub returns-in-Err-clause-goes : goal.returns-in-Err-clause-goes
+returns-in-Err-clause-goes g c =
     let touches = c.in-Err.ensures.touches in
-    subst (λ (f : FlowFault). Runs c.args.buckets.now c.set_row.new.buckets (Some f)) (sym c.store_fault.ensures)
-    (runs_refused c.args.buckets.now c.set_row.new.buckets touches.same c.requires.ready.whole (Unit {0}) c.in-Err.fault touches.alone
-    touches.broken touches.cause)
+    record {
+      going = search rules;
+      runs = subst (λ (f : FlowFault). Runs c.args.buckets.now c.set_row.new.buckets (Some f)) (sym c.store_fault.ensures)
+          (runs_refused c.args.buckets.now c.set_row.new.buckets touches.same c.requires.filled.ready.whole (Unit {0}) c.in-Err.fault
+          touches.alone touches.broken touches.cause);
+    }

@@ -1,5 +1,5 @@
 -- Each turn makes the change that is told first of those that are left.
-use Rattle.std.proofs.Common.{◌≡◌, ◌∙◌, ◌-◌, ◌++◌, ℕ, take, List, [], ◌∷◌, Some, None, reverse, ap, refl, subst, sym}
+use Rattle.std.proofs.Common.{◌≡◌, ◌∙◌, ◌-◌, ◌++◌, ℕ, take, List, [], ◌∷◌, Some, None, reverse, ap, arith, refl, rules, subst, sym}
 use Rattle.osm_base.specs.declared.values.row.RowChange.{RowChange}
 use Rattle.osm_base.specs.map.Spots.{TableMap, changed, changed_all}
 use Rattle.bucket_store.proofs.Holding.{looks_same}
@@ -14,11 +14,11 @@ loop-change-init g c =
     let turned = c.reverse.new.self.items in
     let is : turned ≡ reverse sorted = c.reverse.ensures.items in
     record {
-      going = c.requires.ready.going;
+      going = c.requires.filled.ready.going;
       runs = record {
         looks = looks_same c.args.buckets.now;
         alone = tt;
-        whole = λ no. c.requires.ready.whole;
+        whole = λ no. c.requires.filled.ready.whole;
         failed = λ none. absurd (cc (none));
       };
       count = refl;
@@ -31,8 +31,11 @@ loop-change-init g c =
       );
     }
 
-pub take_row-requires-clause-ready : goal.take_row-requires-clause-ready
-take_row-requires-clause-ready g c = record { going = c.loop-change.invariant.going; whole = c.loop-change.invariant.runs.whole tt }
+pub take_row-requires-clause-filled : goal.take_row-requires-clause-filled
+take_row-requires-clause-filled g c = record {
+  ready = record { going = c.loop-change.invariant.going; whole = c.loop-change.invariant.runs.whole tt };
+  some = omega (arith, c.loop-change.invariant.count, c.requires.filled.some);
+}
 
 pub take_row-requires-clause-fits : goal.take_row-requires-clause-fits
 take_row-requires-clause-fits g c =
@@ -50,8 +53,8 @@ loop-change-preserved g c =
     let same : reverse c.loop-change.changes.items ≡ change ∷ reverse front =
     ap (λ (l : List RowChange). reverse l) c.in-Some.ensures.items ∙ last_first front change in
     record {
-      going = done.going;
-      runs = runs_then c.args.buckets.now c.loop-change.buckets c.take_row.new.buckets None so-far.runs done.runs;
+      going = done.goes.going;
+      runs = runs_then c.args.buckets.now c.loop-change.buckets c.take_row.new.buckets None so-far.runs done.goes.runs;
       count = done.count ∙ so-far.count;
       fit = (subst (λ (l : List RowChange). AllFit definitions l) same so-far.fit).1;
       taken = λ rest now tables has holds.
@@ -69,10 +72,12 @@ returns-in-Err-clause-sound g c rest now tables has holds =
     let one = c.loop-change.invariant.taken rest now tables has holds in
     c.in-Err.ensures.sound rest one.1.later one.0 one.1.has one.1.holds
 
-pub returns-in-Err-clause-runs : goal.returns-in-Err-clause-runs
-returns-in-Err-clause-runs g c =
-    runs_then c.args.buckets.now c.loop-change.buckets c.take_row.new.buckets (Some c.in-Err.fault) c.loop-change.invariant.runs
-    c.in-Err.ensures.runs
+pub returns-in-Err-clause-goes : goal.returns-in-Err-clause-goes
+returns-in-Err-clause-goes g c = record {
+  going = search rules;
+  runs = runs_then c.args.buckets.now c.loop-change.buckets c.take_row.new.buckets (Some c.in-Err.fault) c.loop-change.invariant.runs
+      c.in-Err.ensures.goes.runs;
+}
 
 pub returns-clause-taken : goal.returns-clause-taken
 returns-clause-taken g c rest now tables has holds =
