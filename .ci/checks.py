@@ -20,6 +20,8 @@ BINARY = HERE / "crates/updater_main/out/updater_main"
 CLUSTER = HERE / "bench/osm2pgsql/cluster"
 # In front of a run by a user without rights.
 NOBODY = ("setpriv", "--reuid", "65534", "--regid", "65534", "--clear-groups")
+# How many times as long as else a run may take: bench/edges has a slow program.
+PATIENCE = float(os.environ.get("PATIENCE", "1"))
 failures = []
 
 
@@ -57,6 +59,7 @@ def compare(name, what, found, wanted):
 def run(*words, **how):
     """One run with all that it printed. One that does not end is killed, and says so in place of its line."""
     how = {"stdin": subprocess.DEVNULL, "stdout": subprocess.PIPE, "stderr": subprocess.PIPE, "timeout": 60, **how}
+    how["timeout"] = how["timeout"] and how["timeout"] * PATIENCE
     words = [it if isinstance(it, (str, bytes, os.PathLike)) else str(it) for it in words]
     try:
         return subprocess.run(words, **how)
