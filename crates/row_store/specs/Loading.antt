@@ -1,5 +1,5 @@
 -- The rows of all objects of a store, or those of one table.
-use Rattle.std.specs.Prelude.{◌≡◌, ◌⊎◌, ◌||◌, ◌/◌, ◌%◌, ℕ, nat_eq, Bool, true, is_err, List, [], ◌∷◌, Option, None, Some, Result}
+use Rattle.std.specs.Prelude.{◌≡◌, ◌⊎◌, ◌||◌, ◌/◌, ◌%◌, ℕ, nat_eq, Bool, true, is_err, List, [], ◌∷◌, Option, None, Some, Result, OnOk}
 use Rattle.std.specs.Prelude.{if◌then◌else◌}
 use Rattle.std.specs.FinMap as map
 use Rattle.outside.specs.declared.disk.Disk.{Ghosts}
@@ -14,7 +14,7 @@ use Rattle.page_journal.specs.declared.fault.StoreFault.{StoreFault}
 use Rattle.chain_store.specs.Answers.{IsReadAnswer}
 use Rattle.chain_store.specs.Chains.{OnlyRead, disk_of, journal_of}
 use Rattle.bucket_records.specs.Records.{BucketMap}
-use Rattle.bucket_store.specs.Image.{Image, OnlyLooks}
+use Rattle.bucket_store.specs.Image.{Has, Image, OnlyLooks}
 use Rattle.bucket_store.specs.Transaction.{chains_of, has_refused}
 use Rattle.bucket_store.specs.declared.buckets.Buckets.{Buckets}
 use Rattle.style_read.specs.declared.style.TableDef.{TableDef}
@@ -107,3 +107,8 @@ pub record Looks {D T : Type 0} {g : Ghosts D} (old new : Buckets D g) (result :
   pub broken : is_broken (journal_of (chains_of new)) ≡ (is_broken (journal_of (chains_of old)) || answers_disk_fault result)
   pub refused : has_refused new ≡ is_err result
   pub cause : HasDiskCause (disk_of (chains_of old)).faults (disk_of (chains_of new)).faults result
+
+-- and where they are answered the transaction has made the same as before
+pub record LooksWithin {D T : Type 0} {g : Ghosts D} (old new : Buckets D g) (result : Result T StoreFault) : Type 0 where
+  pub has : OnOk result ((rest now : Image) → Has rest now old → Has rest now new)
+  pub looks : Looks old new result

@@ -6,7 +6,7 @@ ghost use Rattle.osm_base.specs.values.Key.{IsId};
 ghost use Rattle.value_bytes.specs.declared.fault.ValueFault.TheVariants as faults;
 ghost use Rattle.bucket_store.specs.Image.{Has, Image, IsSoundAnswer};
 ghost use Rattle.bucket_store.specs.Transaction.{IsReady};
-ghost use Rattle.row_store.specs.Loading.{Among, AreRowsOf, Fills, HasOnlyRows, IsTold, Looks, RowsBySpot, TellsRows, is_wanted, key_of, with_all, with_wanted};
+ghost use Rattle.row_store.specs.Loading.{Among, AreRowsOf, Fills, HasOnlyRows, IsTold, Looks, LooksWithin, RowsBySpot, TellsRows, is_wanted, key_of, with_all, with_wanted};
 ghost use Rattle.value_bytes.specs.StoreMap.{number_of};
 ghost use Rattle.value_bytes.specs.declared.store_map.StoreMap.TheVariants.{NodeRows, OtherRows};
 
@@ -103,11 +103,10 @@ fn add_maps<D: Disk, F: Filled>(
     // A record that does not spell rows is a refusal, and is never passed over.
     ensures spelled { OnOk result ((rest now : Image) → Has rest now buckets.old
         → HasOnlyRows style.now.tables NodeRows now × HasOnlyRows style.now.tables OtherRows now) }
-    ensures has { OnOk result ((rest now : Image) → Has rest now buckets.old → Has rest now buckets.new) }
     ensures sound { (rest now : Image) (rows : RowsBySpot) → Has rest now buckets.old
         → TellsRows style.now.tables wanted NodeRows rows now → TellsRows style.now.tables wanted OtherRows rows now
         → IsSoundAnswer result }
-    ensures looks { Looks buckets.old buckets.new result }
+    ensures looks { LooksWithin buckets.old buckets.new result }
 {
     if let Err(fault) = add_map(alloc, buckets, style, wanted, StoreMap::NodeRows, tables) {
         return Err(fault);
@@ -132,10 +131,9 @@ fn add_map<D: Disk, F: Filled>(
         → TellsRows style.now.tables wanted map rows now
         → Fills (number_of map) rows (λ n. IsSome (finite.get (now.maps (number_of map)) n)) (F.tables tables.old) (F.tables tables.new)) }
     ensures spelled { OnOk result ((rest now : Image) → Has rest now buckets.old → HasOnlyRows style.now.tables map now) }
-    ensures has { OnOk result ((rest now : Image) → Has rest now buckets.old → Has rest now buckets.new) }
     ensures sound { (rest now : Image) (rows : RowsBySpot) → Has rest now buckets.old
         → TellsRows style.now.tables wanted map rows now → IsSoundAnswer result }
-    ensures looks { Looks buckets.old buckets.new result }
+    ensures looks { LooksWithin buckets.old buckets.new result }
 {
     let count = buckets.root().buckets;
     let mut bucket = 0;
@@ -165,10 +163,9 @@ fn add_bucket<D: Disk, F: Filled>(
     ensures spelled { OnOk result ((rest now : Image) → Has rest now buckets.old → (number : ℕ) (bytes : List ℕ)
         → finite.get (now.maps (number_of map)) number ≡ Some bytes → number % now.root.buckets ≡ bucket % now.root.buckets
         → AreRowsOf style.now.tables (number_of map) number bytes) }
-    ensures has { OnOk result ((rest now : Image) → Has rest now buckets.old → Has rest now buckets.new) }
     ensures sound { (rest now : Image) (rows : RowsBySpot) → Has rest now buckets.old
         → TellsRows style.now.tables wanted map rows now → IsSoundAnswer result }
-    ensures looks { Looks buckets.old buckets.new result }
+    ensures looks { LooksWithin buckets.old buckets.new result }
 {
     if buckets.is_bare(map, bucket) {
         return Ok(());
@@ -203,10 +200,9 @@ fn add_copied<D: Disk, F: Filled>(
     ensures spelled { OnOk result ((rest now : Image) → Has rest now buckets.old → (number : ℕ) (bytes : List ℕ)
         → finite.get (now.maps (number_of map)) number ≡ Some bytes → number % now.root.buckets ≡ bucket % now.root.buckets
         → AreRowsOf style.now.tables (number_of map) number bytes) }
-    ensures has { OnOk result ((rest now : Image) → Has rest now buckets.old → Has rest now buckets.new) }
     ensures sound { (rest now : Image) (rows : RowsBySpot) → Has rest now buckets.old
         → TellsRows style.now.tables wanted map rows now → IsSoundAnswer result }
-    ensures looks { Looks buckets.old buckets.new result }
+    ensures looks { LooksWithin buckets.old buckets.new result }
 {
     let records = match buckets.records(map, bucket) {
         Ok(records) => records,

@@ -1,5 +1,5 @@
 -- The records that a bucket lends fill in the rows of its numbers, and so do their copies; a bare bucket has no numbers.
-use Rattle.std.proofs.Common.{◌%◌, ℕ, List, [], refl}
+use Rattle.std.proofs.Common.{◌%◌, ℕ, List, [], refl, rules}
 use Rattle.chain_store.specs.Chains.{first_of}
 use Rattle.bucket_store.specs.Transaction.{bucket_at, chains_of}
 use Rattle.bucket_store.proofs.Bare.{bare_records}
@@ -42,10 +42,12 @@ returns-in-None-clause-spelled g c =
     on_ok c.add_copied.result _ _ c.add_copied.ensures.spelled (λ spelled rest now has.
     spelled rest now (c.in_default.ensures.brings.keeps.has refl rest now has))
 
-pub returns-in-None-clause-has : goal.returns-in-None-clause-has
-returns-in-None-clause-has g c =
-    on_ok c.add_copied.result _ _ c.add_copied.ensures.has (λ kept rest now has.
-    kept rest now (c.in_default.ensures.brings.keeps.has refl rest now has))
+pub returns-in-None-clause-looks : goal.returns-in-None-clause-looks
+returns-in-None-clause-looks g c = record {
+  has = on_ok c.add_copied.result _ _ c.add_copied.ensures.looks.has (λ kept rest now has.
+      kept rest now (c.in_default.ensures.brings.keeps.has refl rest now has));
+  looks = search rules;
+}
 
 pub returns-in-None-clause-sound : goal.returns-in-None-clause-sound
 returns-in-None-clause-sound g c rest now rows has told =

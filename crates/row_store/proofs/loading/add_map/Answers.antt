@@ -24,11 +24,11 @@ loop-bucket-preserved g c =
     let new = c.add_bucket.new.buckets in
     let bucket = c.loop-bucket.bucket in
     record {
-      going = done.looks.refused;
-      still = still_whole mid new c.in_default.field-0 done.looks ∙ before.still;
-      same = looks_then old mid new before.same done.looks.same;
-      stays = read_then old mid new before.stays done.looks.stays;
-      has = λ rest now had. done.has rest now (before.has rest now had);
+      going = done.looks.looks.refused;
+      still = still_whole mid new c.in_default.field-0 done.looks.looks ∙ before.still;
+      same = looks_then old mid new before.same done.looks.looks.same;
+      stays = read_then old mid new before.stays done.looks.looks.stays;
+      has = λ rest now had. done.looks.has rest now (before.has rest now had);
       filled = λ rest now rows had told.
           let count : c.root-count.result.buckets ≡ now.root.buckets = ap (λ (r : Root). r.buckets) (c.root-count.ensures ∙ had.root) in
           fills_then (number_of c.args.map) rows (λ n. IsSome (map.get (now.maps (number_of c.args.map)) n)

@@ -15,7 +15,7 @@ returns-in-Ok-clause-nodes g c rest now rows has nodes others =
     (λ n. IsSome (map.get (now.maps (number_of OtherRows)) n))
     (g.F.Filled.tables c.args.tables.now)
     (g.F.Filled.tables c.add_map.new.tables) (g.F.Filled.tables c.add_map-2.new.tables) (c.in_default.ensures.filled rest now rows has nodes)
-    (c.in-Ok.ensures.filled rest now rows (c.in_default.ensures.has rest now has) others)
+    (c.in-Ok.ensures.filled rest now rows (c.in_default.ensures.looks.has rest now has) others)
 
 pub returns-in-Ok-clause-others : goal.returns-in-Ok-clause-others
 returns-in-Ok-clause-others g c rest now rows has nodes others =
@@ -23,12 +23,12 @@ returns-in-Ok-clause-others g c rest now rows has nodes others =
     (λ n. IsSome (map.get (now.maps (number_of OtherRows)) n))
     (g.F.Filled.tables c.args.tables.now)
     (g.F.Filled.tables c.add_map.new.tables) (g.F.Filled.tables c.add_map-2.new.tables) (c.in_default.ensures.filled rest now rows has nodes)
-    (c.in-Ok.ensures.filled rest now rows (c.in_default.ensures.has rest now has) others)
+    (c.in-Ok.ensures.filled rest now rows (c.in_default.ensures.looks.has rest now has) others)
 
 pub returns-in-Err-add_map-clause-sound : goal.returns-in-Err-add_map-clause-sound
 returns-in-Err-add_map-clause-sound g c rest now rows has nodes others =
-    c.in-Err-add_map.ensures.sound rest now rows (c.in_default.ensures.has rest now has) others
+    c.in-Err-add_map.ensures.sound rest now rows (c.in_default.ensures.looks.has rest now has) others
 
 pub returns-in-Ok-clause-spelled : goal.returns-in-Ok-clause-spelled
 returns-in-Ok-clause-spelled g c rest now has =
-    (c.in_default.ensures.spelled rest now has, c.in-Ok.ensures.spelled rest now (c.in_default.ensures.has rest now has))
+    (c.in_default.ensures.spelled rest now has, c.in-Ok.ensures.spelled rest now (c.in_default.ensures.looks.has rest now has))
