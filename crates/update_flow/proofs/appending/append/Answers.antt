@@ -105,7 +105,8 @@ returns-in-Err-change_maps-clause-ends g c =
 pub returns-in-Err-clause-sound : goal.returns-in-Err-clause-sound
 returns-in-Err-clause-sound g c held rest same was is style next =
     sound_refused c.args.limits.now (imported held) (Append c.args.bounds.now c.args.change.now) rest is c.in-Err.fault
-    (buckets_of c.args.maps.now) c.load_due.new.buckets (rests_under rest rest (buckets_of c.args.maps.now) was) c.in-Err.ensures.goes.runs.looks
+    (buckets_of c.args.maps.now) c.load_due.new.buckets (rests_under rest rest (buckets_of c.args.maps.now) was)
+    c.in-Err.ensures.goes.runs.looks
     (sound_answers c.args.limits.now c.in-Err.fault _ (c.in-Err.ensures.spelled rest rest held.due was is.due))
 
 -- the change is refused
@@ -145,7 +146,8 @@ returns-in-Ok-settle-clause-sound g c held rest same was is style next =
     (c.in-Ok.ensures.has rest rest was) in
     let stand = stands_known held rest is c.args.style.now style in
     sound_turns held rest is c.args.style.now style c.args.limits.now c.args.bounds.now c.args.change.now c.args.number old mid
-    (buckets_of last) c.settle.new.buckets c.in-Ok.ensures.goes.runs.looks later.looks c.change_maps.new.due _ c.in-Ok-settle.ensures.commits
+    (buckets_of last) c.settle.new.buckets c.in-Ok.ensures.goes.runs.looks later.looks c.change_maps.new.due _
+    c.in-Ok-settle.ensures.commits
     (style_in last) _ (later.same_style ∙ c.requires.style) was same next c.requires.counted
     (subst (λ (l : List Run). IsTileSet l) c.as_slice-runs.ensures.runs c.as_slice-runs.ensures.tiles)
     (subst (λ (l : List Entry). AreIdEntries l) c.entries.ensures.entries c.known_ids.ensures)
@@ -162,7 +164,8 @@ returns-clause-sound g c held rest same was is style next =
     (c.in-Ok.ensures.has rest rest was) in
     let stand = stands_known held rest is c.args.style.now style in
     sound_turns held rest is c.args.style.now style c.args.limits.now c.args.bounds.now c.args.change.now c.args.number old mid
-    (buckets_of last) c.settle.new.buckets c.in-Ok.ensures.goes.runs.looks later.looks c.change_maps.new.due _ c.in-Err-settle.ensures.commits
+    (buckets_of last) c.settle.new.buckets c.in-Ok.ensures.goes.runs.looks later.looks c.change_maps.new.due _
+    c.in-Err-settle.ensures.commits
     (style_in last) _ (later.same_style ∙ c.requires.style) was same next c.requires.counted
     (subst (λ (l : List Run). IsTileSet l) c.as_slice-runs.ensures.runs c.as_slice-runs.ensures.tiles)
     (subst (λ (l : List Entry). AreIdEntries l) c.entries.ensures.entries c.known_ids.ensures)
@@ -196,7 +199,8 @@ returns-in-Ok-settle-clause-turns g c held rest same was is style next =
     (c.in-Ok.ensures.has rest rest was) in
     let stand = maps_stand held rest is c.args.style.now style in
     append_turns held rest is c.args.style.now style c.args.limits.now c.args.bounds.now c.args.change.now c.args.number old mid
-    (buckets_of last) c.settle.new.buckets c.in-Ok.ensures.goes.runs.looks later.looks c.change_maps.new.due _ c.in-Ok-settle.ensures.commits
+    (buckets_of last) c.settle.new.buckets c.in-Ok.ensures.goes.runs.looks later.looks c.change_maps.new.due _
+    c.in-Ok-settle.ensures.commits
     (style_in last) _ _ (later.same_style ∙ c.requires.style) was same next c.requires.counted (c.in-Ok.ensures.due rest rest held was is)
     (subst (λ (l : List Run). IsTileSet l) c.as_slice-runs.ensures.runs c.as_slice-runs.ensures.tiles)
     (subst (λ (l : List Entry). AreIdEntries l) c.entries.ensures.entries c.known_ids.ensures)
@@ -220,7 +224,8 @@ returns-clause-turns g c held rest same was is style next =
     (c.in-Ok.ensures.has rest rest was) in
     let stand = maps_stand held rest is c.args.style.now style in
     append_turns held rest is c.args.style.now style c.args.limits.now c.args.bounds.now c.args.change.now c.args.number old mid
-    (buckets_of last) c.settle.new.buckets c.in-Ok.ensures.goes.runs.looks later.looks c.change_maps.new.due _ c.in-Err-settle.ensures.commits
+    (buckets_of last) c.settle.new.buckets c.in-Ok.ensures.goes.runs.looks later.looks c.change_maps.new.due _
+    c.in-Err-settle.ensures.commits
     (style_in last) _ _ (later.same_style ∙ c.requires.style) was same next c.requires.counted (c.in-Ok.ensures.due rest rest held was is)
     (subst (λ (l : List Run). IsTileSet l) c.as_slice-runs.ensures.runs c.as_slice-runs.ensures.tiles)
     (subst (λ (l : List Entry). AreIdEntries l) c.entries.ensures.entries c.known_ids.ensures)

@@ -68,7 +68,8 @@ returns-in-Err-clause-turns g c limits held rest same has is styled next =
     let sound = c.in-Err.ensures.sound rest rest held.tables has
     (subst (λ (s : StyleOf). HoldsTables s.tables rest.maps held.tables) styled is.tables) in
     turns_refused limits (following held) (Follow (blocks.Delta c.args.delta)) fault rest old c.take_rows.new.buckets
-    (rests_under rest rest old has) is c.in-Err.ensures.goes.runs.looks (sound_answers limits fault _ sound) (sound_fits limits _ fault sound)
+    (rests_under rest rest old has) is c.in-Err.ensures.goes.runs.looks (sound_answers limits fault _ sound)
+    (sound_fits limits _ fault sound)
 
 pub returns-in-Err-clause-ends : goal.returns-in-Err-clause-ends
 returns-in-Err-clause-ends g c = runs_ended _ c.args.buckets.now c.take_rows.new.buckets c.in-Err.ensures.goes.runs

@@ -59,7 +59,8 @@ pub returns-in-Ok-take_rows-clause-ends : goal.returns-in-Ok-take_rows-clause-en
 returns-in-Ok-take_rows-clause-ends g c =
     let old = c.args.buckets.now in
     ends_then (result_err c.finish_whole.result) old c.take_rows.new.buckets c.finish_whole.new.buckets
-    (looks_then old c.make_room.new.buckets c.take_rows.new.buckets c.in-Ok.ensures.goes.runs.looks c.in-Ok-take_rows.ensures.goes.runs.looks)
+    (looks_then old c.make_room.new.buckets c.take_rows.new.buckets c.in-Ok.ensures.goes.runs.looks
+    c.in-Ok-take_rows.ensures.goes.runs.looks)
     (c.finish_whole.ensures.commits.ends (Follow (blocks.Full c.args.version c.args.style_bytes c.args.style.now c.args.rows)))
 
 -- a row was refused
@@ -72,7 +73,8 @@ returns-in-Err-take_rows-clause-begun g c limits rest same has blank =
     let sound = c.in-Err-take_rows.ensures.sound rest room.0 finite.empty room.1 (room.2.none style.tables) in
     turns_refused limits formatted (Follow (blocks.Full c.args.version c.args.style_bytes style c.args.rows)) fault rest old
     c.take_rows.new.buckets (rests_under rest rest old has) blank
-    (looks_then old c.make_room.new.buckets c.take_rows.new.buckets c.in-Ok.ensures.goes.runs.looks c.in-Err-take_rows.ensures.goes.runs.looks)
+    (looks_then old c.make_room.new.buckets c.take_rows.new.buckets c.in-Ok.ensures.goes.runs.looks
+    c.in-Err-take_rows.ensures.goes.runs.looks)
     (sound_answers limits fault _ sound) (sound_fits limits _ fault sound)
 
 pub returns-in-Err-take_rows-clause-turns : goal.returns-in-Err-take_rows-clause-turns
@@ -84,7 +86,8 @@ returns-in-Err-take_rows-clause-turns g c limits held rest same has is newer =
     let sound = c.in-Err-take_rows.ensures.sound rest room.0 finite.empty room.1 (room.2.none style.tables) in
     turns_refused limits (following held) (Follow (blocks.Full c.args.version c.args.style_bytes style c.args.rows)) fault rest old
     c.take_rows.new.buckets (rests_under rest rest old has) is
-    (looks_then old c.make_room.new.buckets c.take_rows.new.buckets c.in-Ok.ensures.goes.runs.looks c.in-Err-take_rows.ensures.goes.runs.looks)
+    (looks_then old c.make_room.new.buckets c.take_rows.new.buckets c.in-Ok.ensures.goes.runs.looks
+    c.in-Err-take_rows.ensures.goes.runs.looks)
     (sound_answers limits fault _ sound) (sound_fits limits _ fault sound)
 
 pub returns-in-Err-take_rows-clause-ends : goal.returns-in-Err-take_rows-clause-ends

@@ -31,7 +31,8 @@ pub returns-in-Ok-clause-exact : goal.returns-in-Ok-clause-exact
 returns-in-Ok-clause-exact g c = λ pages opens today loaded owned.
     let old = c.args.buckets.now in
     let keeps = opens.open_chains.keeps in
-    let kept : kept_of (chains_of c.begin.new.self) ≡ kept_of (chains_of old) = c.begin.ensures.kept ∙ c.in-Ok.ensures.reads.only.stays.kept in
+    let kept : kept_of (chains_of c.begin.new.self) ≡ kept_of (chains_of old) =
+    c.begin.ensures.kept ∙ c.in-Ok.ensures.reads.only.stays.kept in
     let whole : is_whole_store c.begin.new.self = ap (λ j. is_broken j) c.begin.ensures.journal ∙ c.in-Ok.ensures.reads.runs.whole tt in
     let later = c.begin.ensures.open pages (c.are_empty.ensures.open pages opens) in
     let own = meant pages (kept_of (chains_of old)) keeps today.count (kept_long old pages opens) loaded owned
@@ -47,6 +48,7 @@ returns-in-Ok-clause-runs g c =
     let whole : is_whole_store c.begin.new.self = ap (λ j. is_broken j) c.begin.ensures.journal ∙ c.in-Ok.ensures.reads.runs.whole tt in
     let begun : Runs c.are_empty.new.buckets c.begin.new.self None =
     record { looks = c.begin.ensures.same; alone = tt; whole = λ no. whole; failed = λ is. absurd (cc (is)) } in
-    runs_then c.args.buckets.now c.are_empty.new.buckets c.judge_meant.new.buckets (result_err c.judge_meant.result) c.in-Ok.ensures.reads.runs
+    runs_then c.args.buckets.now c.are_empty.new.buckets c.judge_meant.new.buckets (result_err c.judge_meant.result)
+    c.in-Ok.ensures.reads.runs
     (runs_then c.are_empty.new.buckets c.begin.new.self c.judge_meant.new.buckets (result_err c.judge_meant.result) begun
     c.judge_meant.ensures.runs)
