@@ -111,7 +111,7 @@ pub fn ended_of<R: Threads + Wait + Sync>(
     let disk_fails = fails_of(alloc, turn.disk)?;
     let output_fails = fails_of(alloc, turn.output)?;
     let held = changed(Vec::from_slice(alloc, held)?, turn.cut, &turn.puts);
-    let gate = InTurn::new(turn.holds);
+    let gate = InTurn::new(alloc, turn.holds)?;
     let files = MemInputs::new(files_of(alloc, &turn.files)?, inputs_fail);
     let mut inputs = WatchedFiles::new(files, &gate);
     let mut disk = disk_of(alloc, held, disk_fails);
@@ -127,7 +127,7 @@ pub fn ended_of<R: Threads + Wait + Sync>(
         &gate,
     );
     let other = if gate.has_missed() {
-        told_missed(alloc, turn.holds.file)
+        told_missed(alloc)
     } else {
         compared(
             alloc,
@@ -172,9 +172,9 @@ fn crashed(alloc: Global, disk: &MemDisk, pick: CrashPick) -> Result<Vec<u8>, Al
     }
 }
 
-/// That a file is not asked for while the first change is held.
-fn told_missed(alloc: Global, file: u64) -> Result<Option<String>, AllocError> {
-    Ok(Some(format!(in alloc; "file {file} is not asked for while the first change is held")?))
+/// That something was held in vain.
+fn told_missed(alloc: Global) -> Result<Option<String>, AllocError> {
+    Ok(Some(String::from_str(alloc, "the gate holds in vain")?))
 }
 
 /// The end of a run, with a copy of these bytes.

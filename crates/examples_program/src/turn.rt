@@ -130,7 +130,7 @@ impl Turn {
             },
             "put" => self.push_put(alloc, text),
             "cut" | "times" => Ok(self.set_count(word, text)),
-            "in-turn" | "ahead-held" => Ok(self.set_holds(word, text)),
+            "in-turn" | "in-build" | "ahead-held" | "built-held" => Ok(self.set_holds(word, text)),
             "inputs-fail-from" => Ok(set_number(&mut self.inputs.from, text)),
             "inputs-fail-at" => Ok(set_number(&mut self.inputs.at, text)),
             "disk-fails-from" => Ok(set_number(&mut self.disk.from, text)),
@@ -152,17 +152,13 @@ impl Turn {
         Ok(true)
     }
 
-    /// How many changes are held, or until the file of which word is asked for, and for how many turns.
+    /// What the gate holds.
     fn set_holds(&mut self, word: &str, text: &str) -> bool {
-        let Some((held, turns)) = row_of(text) else {
+        let Some(holds) = Holds::of(word, text) else {
             return false;
         };
-        let known = if word == "in-turn" {
-            set_number(&mut self.holds.changes, held)
-        } else {
-            set_number(&mut self.holds.file, held)
-        };
-        known && set_number(&mut self.holds.turns, turns)
+        self.holds = holds;
+        true
     }
 
     /// How many bytes of the disk are left, or how often the run is done.

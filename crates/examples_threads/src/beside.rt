@@ -3,11 +3,12 @@
 use crate::built::{numbers_of, rows_by};
 use crate::pending::nodes_to;
 use crate::refusal::Refusal;
+use example_table::{number_of, row_of};
 use object_fold::Objects;
 use osm_base::PendingSet;
 use outside::{Gate, GatePlace};
 use std::alloc::Global;
-use std::sync::atomic::{AtomicBool, Ordering};
+use std::sync::atomic::{AtomicBool, AtomicU64, Ordering};
 use std::thread::{self, Threads};
 
 /// Holds the worker that drew ticket 0 until ticket 1 is built, for so many turns at most.
@@ -64,13 +65,77 @@ pub fn beside<R: Threads + Sync>(
     Ok(())
 }
 
+/// Holds each of so many tickets that are built first, with its worker, until they all are, for so many turns at most.
+#[derive(Drop)]
+struct HoldsBuilt {
+    tickets: u64,
+    turns: u64,
+    built: AtomicU64,
+    missed: AtomicBool,
+}
+
+impl HoldsBuilt {
+    /// Whether the turns of one ran out.
+    fn has_missed(&self) -> bool {
+        self.missed.load(Ordering::SeqCst)
+    }
+
+    fn hold(&self) {
+        for _ in 0..self.turns {
+            if self.built.load(Ordering::SeqCst) >= self.tickets || self.has_missed() {
+                return;
+            }
+            thread::yield_now();
+        }
+        self.missed.store(true, Ordering::SeqCst);
+    }
+}
+
+impl Gate for HoldsBuilt {
+    fn pass(&self, place: GatePlace, _number: u64) {
+        if place == GatePlace::Built && self.built.fetch_add(1, Ordering::SeqCst) < self.tickets {
+            self.hold();
+        }
+    }
+}
+
+/// A row `WORKERS TICKETS TURNS`: of 64 tickets each of so many that are built first is held until they all are, for so many turns.
+/// `held` where they were.
+pub fn held<R: Threads + Sync>(
+    rt: &R,
+    alloc: Global,
+    given: &str,
+    out: &mut String,
+) -> Result<(), Refusal> {
+    let Some((workers, tickets, turns)) = held_by(given) else {
+        return Err(Refusal::NoRow);
+    };
+    let gate = HoldsBuilt {
+        tickets,
+        turns,
+        built: AtomicU64::new(0),
+        missed: AtomicBool::new(false),
+    };
+    let pending = nodes_to(alloc, 64)?;
+    build_held(rt, alloc, workers, &pending, &gate)?;
+    out.push_str(if gate.has_missed() { "in vain" } else { "held" })?;
+    Ok(())
+}
+
+/// Three numbers.
+fn held_by(text: &str) -> Option<(u64, u64, u64)> {
+    let (workers, rest) = row_of(text)?;
+    let (tickets, turns) = numbers_of(rest)?;
+    Some((number_of(workers)?, tickets, turns))
+}
+
 /// Builds the rows of no object behind a gate.
-fn build_held<R: Threads + Sync>(
+fn build_held<R: Threads + Sync, G: Gate>(
     rt: &R,
     alloc: Global,
     workers: u64,
     pending: &PendingSet,
-    gate: &HoldsFirst,
+    gate: &G,
 ) -> Result<(), Refusal> {
     rows_by(rt, alloc, workers, pending, &Objects::new(alloc), gate)?;
     Ok(())

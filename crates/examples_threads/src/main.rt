@@ -75,6 +75,7 @@ fn run<R: Threads + Wait + Sync + AllocGlobal>(
         "ahead" => ahead::ahead(rt, alloc, given, out),
         "pipe" => ahead::pipe(rt, alloc, given, out),
         "beside" => beside::beside(rt, alloc, given, out),
+        "held" => beside::held(rt, alloc, given, out),
         _ => Err(Refusal::NoRow),
     }
 }
