@@ -9,7 +9,7 @@ use crate::files::ChangeFiles;
 use crate::parcel::{Parcel, is_whole, read_parcel};
 use crate::pipe::{Pipe, Taker, make_pipe};
 use crate::putting::put_some;
-use object_fold::Workers;
+use object_fold::WorkerCount;
 use osm_base::{Limits, OutOfMemory};
 use outside::Inputs;
 use std::alloc::Global;
@@ -74,7 +74,7 @@ fn read_each<R: Threads + Sync, I: Inputs>(
     inputs: &mut I,
     files: ChangeFiles,
     limits: &Limits,
-    workers: Workers,
+    workers: WorkerCount,
 ) -> Result<Vec<Parcel>, OutOfMemory>
     ensures files { ReadsFiles limits.now files (λ Are. IfOk result (λ read. Are read.items)) (λ asked. I.reads inputs.old asked inputs.new)
         (I.view inputs.old) (I.view inputs.new) }
@@ -101,7 +101,7 @@ fn read_beside<R: Threads + Wait + Sync, I: Inputs>(
     inputs: &mut I,
     files: ChangeFiles,
     limits: &Limits,
-    workers: Workers,
+    workers: WorkerCount,
     ahead: usize,
 ) -> Result<Option<Vec<Parcel>>, OutOfMemory>
     requires some { 1 ≤ ahead }
@@ -167,7 +167,7 @@ pub fn read_ahead<R: Threads + Wait + Sync, I: Inputs>(
     ensures all { IfOk result (λ taken. HasAll files.count taken.items) }
     ensures read { ReadsAmong files.first (files.first + files.count) (λ asked. I.reads inputs.old asked inputs.new) (I.view inputs.old) (I.view inputs.new) }
 {
-    let workers = Workers { count: workers };
+    let workers = WorkerCount { count: workers };
     match read_beside(rt, alloc, inputs, files, limits, workers, ahead) {
         Ok(Some(taken)) => Ok(taken),
         Ok(None) => read_each(rt, alloc, inputs, files, limits, workers),

@@ -3,7 +3,7 @@ ghost use Rattle.std.specs.Prelude.{◌≡◌, ◌↔◌, IsTrue};
 ghost use Rattle.object_fold.specs.Reading.{ReadsNoOther};
 ghost use Rattle.change_pipe.specs.Parcels.{IsParcelOf, IsWhole};
 
-use object_fold::{Change, FileFault, Workers, read_parallel};
+use object_fold::{Change, FileFault, WorkerCount, read_parallel};
 use osm_base::Limits;
 use outside::Inputs;
 use std::alloc::Global;
@@ -40,7 +40,7 @@ pub(crate) fn read_parcel<R: Threads + Sync, I: Inputs>(
     inputs: &mut I,
     file: u32,
     limits: &Limits,
-    workers: Workers,
+    workers: WorkerCount,
 ) -> Parcel
     ensures parcel { IsParcelOf limits.now file (I.view inputs.old) (I.view inputs.new) result }
     ensures read { ReadsNoOther file (λ asked. I.reads inputs.old asked inputs.new) (I.view inputs.old) (I.view inputs.new) }

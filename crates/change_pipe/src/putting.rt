@@ -7,7 +7,7 @@ ghost use Rattle.change_pipe.specs.Files.{AreRead, HasAll, ReadsAmong};
 use crate::files::ChangeFiles;
 use crate::parcel::{is_whole, read_parcel};
 use crate::pipe::{Pipe, Putter};
-use object_fold::Workers;
+use object_fold::WorkerCount;
 use osm_base::Limits;
 use outside::Inputs;
 use std::alloc::Global;
@@ -36,7 +36,7 @@ pub fn put_files<R: Threads + Wait + Sync, I: Inputs>(
     let end = files.first + files.count;
     let mut file = files.first;
     while file < end {
-        let workers = Workers { count: workers };
+        let workers = WorkerCount { count: workers };
         let parcel = read_parcel(rt, alloc, inputs, file, limits, workers);
         let whole = is_whole(&parcel);
         if !pipe.put_when_room(rt, putter, parcel) {

@@ -9,7 +9,7 @@ ghost use Rattle.delta_feed.specs.Writing.{IsUnwritten};
 use crate::FeedWrite;
 use crate::rows::push_own_entries;
 use crate::written::{push_end, push_full, push_style};
-use object_fold::Workers;
+use object_fold::WorkerCount;
 use osm_base::{OutOfMemory, Row, Spot};
 use outside::{Failed, Sink, put_all};
 use rayon::prelude::*;
@@ -35,7 +35,7 @@ pub fn write_full_by<R: Threads + Sync, S: Sink>(
     ensures err { IfErr result (IsUnwritten (full_text version style_bytes.now tables.now) (S.view out.old) (S.view out.new)) }
     ensures later { (S.view out.old).faults ≤ (S.view out.new).faults }
 {
-    let workers = Workers { count: workers };
+    let workers = WorkerCount { count: workers };
     let Ok(texts) = full_texts(rt, alloc, workers, version, style_bytes, tables) else {
         return Err(FeedWrite::OutOfMemory);
     };
@@ -62,7 +62,7 @@ fn put_each<S: Sink>(out: &mut S, texts: &[Vec<u8>]) -> Result<(), Failed>
 fn full_texts<R: Threads + Sync>(
     rt: &R,
     alloc: Global,
-    workers: Workers,
+    workers: WorkerCount,
     version: u64,
     style_bytes: &[u8],
     tables: &SortedRows,
@@ -100,7 +100,7 @@ fn end_text(alloc: Global) -> Result<Vec<u8>, OutOfMemory>
 fn entry_texts<R: Threads + Sync>(
     rt: &R,
     alloc: Global,
-    workers: Workers,
+    workers: WorkerCount,
     entries: &[(Spot, Row)],
 ) -> Result<Vec<Vec<u8>>, OutOfMemory>
     ensures texts { IfOk result (λ texts. flat_map (λ text. text.items) texts.items ≡ text_of (entry_lines (table_entries entries.now))) }
@@ -119,7 +119,7 @@ fn entry_texts<R: Threads + Sync>(
 // Where the rows do not come out even, few are left over. They stand behind the last piece, and the thread of that one makes their
 // text too.
 /// How many rows a piece has.
-fn piece_len(count: usize, workers: Workers) -> usize
+fn piece_len(count: usize, workers: WorkerCount) -> usize
     ensures some { 0 < result }
 {
     (count / workers.count as usize).max(LEAST)

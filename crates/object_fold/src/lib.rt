@@ -32,7 +32,7 @@ mod scan;
 mod share_out;
 mod waiting;
 mod whole;
-mod workers;
+mod worker_count;
 
 pub use change::Change;
 pub use fault::FileFault;
@@ -42,4 +42,4 @@ pub use objects::{ObjectIndex, Objects, UnlistedObjects};
 pub use rising_ids::RisingIds;
 pub use scan::{PIECE, read_file, scan_file};
 pub use whole::{WholeFault, read_all};
-pub use workers::Workers;
+pub use worker_count::WorkerCount;

@@ -14,7 +14,7 @@ use crate::lot_size::LotSize;
 use crate::progress::Progress;
 use crate::scan::{PIECE, read_on, scan_file};
 use crate::waiting::{Waiting, read_beside};
-use crate::{Change, FileFault, Keeper, Workers};
+use crate::{Change, FileFault, Keeper, WorkerCount};
 use osm_base::{Limits, OutOfMemory};
 use outside::Inputs;
 use std::alloc::Global;
@@ -28,7 +28,7 @@ pub const LOT: usize = 1_351_680;
 /// How far a file was read: the lines that were taken and the lot that waits behind them, and the bytes that were read behind it.
 #[derive(Drop)]
 pub struct LotReader {
-    workers: Workers,
+    workers: WorkerCount,
     waiting: Waiting,
     ahead: Ahead,
     /// The room that a lot had.
@@ -48,7 +48,7 @@ fn drop_front(alloc: Global, kept: &mut Vec<u8>, count: usize) -> Result<(), Out
 
 impl LotReader {
     /// Nothing is read yet.
-    fn new(alloc: Global, workers: Workers, lot: LotSize) -> Result<Self, OutOfMemory>
+    fn new(alloc: Global, workers: WorkerCount, lot: LotSize) -> Result<Self, OutOfMemory>
         ensures new { IfOk result (λ reader. IsNew lot.bytes reader) }
     {
         Ok(Self {
@@ -256,7 +256,7 @@ pub fn scan_by_lots<I: Inputs, R: Threads + Sync, K: Keeper>(
         ((I.view inputs.old).left file) ((I.view inputs.new).left file)) }
     ensures read { ReadsNoOther file (λ asked. I.reads inputs.old asked inputs.new) (I.view inputs.old) (I.view inputs.new) }
 {
-    let workers = Workers { count: workers };
+    let workers = WorkerCount { count: workers };
     let mut reader = LotReader::new(alloc, workers, LotSize { bytes: lot })?;
     reader.read_lots(rt, alloc, inputs, file, limits, keeper)?;
     reader.finish(alloc, inputs, file, limits, keeper)?;

@@ -4,7 +4,7 @@ ghost use Rattle.std.specs.List.{AllZip};
 ghost use Rattle.osm_base.specs.declared.bounds.limits.LimitNumbers.{LimitNumbers};
 ghost use Rattle.object_fold.specs.Parts.{AreShares, IsShareOf};
 
-use crate::Workers;
+use crate::WorkerCount;
 use crate::parts::Share;
 use opl_lines::first_line;
 use std::alloc::{AllocError, Global};
@@ -26,7 +26,7 @@ pub fn piece_end(bytes: &[u8], least: usize) -> usize
 pub fn pieces_of(
     alloc: Global,
     bytes: &[u8],
-    workers: Workers,
+    workers: WorkerCount,
     least: usize,
 ) -> Result<Vec<&[u8]>, AllocError>
     ensures whole { IfOk result (λ pieces. flat_map (λ piece. piece.now) pieces.items ≡ bytes.now) }

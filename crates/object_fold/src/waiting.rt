@@ -11,7 +11,7 @@ use crate::ahead::Ahead;
 use crate::parts::{Share, give_shares, read_share};
 use crate::passed::Passed;
 use crate::share_out::{leave_out, piece_end, pieces_of};
-use crate::{FileFault, Keeper, Workers};
+use crate::{FileFault, Keeper, WorkerCount};
 use osm_base::{Entry, Limits, OutOfMemory};
 use outside::Inputs;
 use std::alloc::Global;
@@ -109,7 +109,7 @@ pub fn behind<'a>(bytes: &'a [u8], shares: &[Share]) -> &'a [u8]
 }
 
 /// How many bytes of a lot are read by the worker that gives the entries of the lot before it, if there is one, and reads the next ahead.
-fn own_len(lot: usize, workers: Workers, is_first: bool) -> usize {
+fn own_len(lot: usize, workers: WorkerCount, is_first: bool) -> usize {
     if is_first {
         return lot / workers.count as usize;
     }
@@ -143,14 +143,14 @@ fn one_share(alloc: Global, share: Share) -> Result<Vec<Share>, OutOfMemory>
 fn pieces_beside<'a>(
     waiting: &Waiting,
     bytes: &'a [u8],
-    workers: Workers,
+    workers: WorkerCount,
     lot: usize,
 ) -> Result<Vec<&'a [u8]>, OutOfMemory>
     ensures whole { IfOk result (λ pieces. flat_map (λ piece. piece.now) pieces.items ≡ bytes.now) }
 {
     let own = own_len(lot, workers, waiting.shares.is_empty());
     let (front, rest) = bytes.split_at(piece_end(bytes, own));
-    let others = Workers {
+    let others = WorkerCount {
         count: (workers.count - 1).max(1),
     };
     let least = lot.saturating_sub(own) / others.count as usize;
@@ -249,7 +249,7 @@ pub fn read_beside<I: Inputs, R: Threads + Sync, K: Keeper>(
     rt: &R,
     limits: &Limits,
     bytes: &[u8],
-    workers: Workers,
+    workers: WorkerCount,
     waiting: &mut Waiting,
     keeper: &mut K,
     ahead: &mut Ahead,
