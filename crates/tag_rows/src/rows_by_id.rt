@@ -1,8 +1,6 @@
 //! Rows by ids.
-ghost use Rattle.std.specs.Prelude.{◌≡◌, None, IfOk, IsTrue, OnOk};
-ghost use Rattle.std.specs.BTreeMap.{get};
+ghost use Rattle.std.specs.Prelude.{◌≡◌, IfOk, OnOk};
 ghost use Rattle.std.specs.FinMap as map;
-ghost use Rattle.std.specs.Ordering.{nat_cmp};
 ghost use Rattle.tag_rows.specs.RowsById.{set_row, text_of};
 
 use osm_base::{Bytes, OutOfMemory};
@@ -15,10 +13,13 @@ use std::marker::Model;
 pub struct RowsById {
     alloc: Global,
     rows: BTreeMap<u64, Bytes>,
+    /// No id above it has a row.
+    highest: u64,
 }
 
 impl Model for RowsById {
-    ghost use Rattle.std.specs.Prelude.{ℕ, List};
+    ghost use Rattle.std.specs.Prelude.{◌≡◌, ◌<◌, ℕ, List, None};
+    ghost use Rattle.std.specs.BTreeMap.{get};
     ghost use Rattle.std.specs.Coded.{coded_list, coded_ℕ};
     ghost use Rattle.std.specs.Ordering.{nat_cmp};
     ghost use Rattle.std.specs.FinMap as map;
@@ -28,6 +29,8 @@ impl Model for RowsById {
     ghost coded = { map.code coded_ℕ (coded_list coded_ℕ) };
 
     ghost view = { λ own. map.from_entries own.rows.entries };
+
+    ghost invariant = { λ own. (id : ℕ) → own.highest < id → get nat_cmp own.rows id ≡ None };
 }
 
 impl RowsById {
@@ -38,6 +41,7 @@ impl RowsById {
         Self {
             alloc,
             rows: BTreeMap::new(alloc),
+            highest: 0,
         }
     }
 
@@ -46,7 +50,8 @@ impl RowsById {
         ensures ok { OnOk result (self.new ≡ set_row self.old id row.now) }
     {
         if row.is_empty() {
-            if is_behind(&self.rows, id) {
+            // So do most, since files have their ids in order.
+            if id > self.highest {
                 return Ok(());
             }
             self.rows.remove(&id);
@@ -54,6 +59,7 @@ impl RowsById {
         }
         let row = Vec::from_slice(self.alloc, row)?;
         self.rows.insert(id, Bytes::from_vec(row))?;
+        self.highest = self.highest.max(id);
         Ok(())
     }
 
@@ -66,15 +72,5 @@ impl RowsById {
             text.extend_from_slice(row.as_slice())?;
         }
         Ok(text)
-    }
-}
-
-/// Whether an id comes behind all that have a row: so do most, since files have their ids in order.
-fn is_behind(rows: &BTreeMap<u64, Bytes>, id: u64) -> bool
-    ensures none { IsTrue result → get nat_cmp rows.now id ≡ None }
-{
-    match rows.last_key_value() {
-        Some((last, _)) => *last < id,
-        None => true,
     }
 }

@@ -3,10 +3,10 @@ use Rattle.tag_rows.specs.RowsById.{set_row}
 use Rattle.tag_rows.proofs.RowMapLaws.{left_out, taken_out, put_in, no_byte, some_byte}
 use Rattle.tag_rows.proofs.rows_by_id.RowsById.set.Goals as goal
 
-pub returns-then-is_behind : goal.returns-then-is_behind
-returns-then-is_behind c = record {
+pub returns-then-id-self : goal.returns-then-id-self
+returns-then-id-self c = record {
   ok = left_out c.args.self.now c.args.id c.self.inside.rows c.self.view_is c.args.row.now
-      (no_byte c.args.row.now (sym c.is_empty.ensures ∙ c.if-is_empty.true)) (c.if-is_behind.ensures.none refl);
+      (no_byte c.args.row.now (sym c.is_empty.ensures ∙ c.if-is_empty.true)) (c.self.invariant c.args.id c.if-id-self.true);
 }
 
 pub returns-then-is_empty : goal.returns-then-is_empty
