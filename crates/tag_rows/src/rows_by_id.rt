@@ -50,7 +50,7 @@ impl RowsById {
         ensures ok { OnOk result (self.new ≡ set_row self.old id row.now) }
     {
         if row.is_empty() {
-            // So do most, since files have their ids in order.
+            // Most ids come behind all that have a row, since files have them in order.
             if id > self.highest {
                 return Ok(());
             }

@@ -7,7 +7,7 @@ ghost use Rattle.updater.specs.Number as spec;
 
 /// The number that a word of 1 to 6 digits writes.
 #[tactic(auto, unfolding(crate::specs::Number::number))]
-pub fn number_of(word: &[u8]) -> Option<u32>
+pub fn number_in(word: &[u8]) -> Option<u32>
     ensures number { result ≡ spec.number word.now }
 {
     if spelled(word) {

@@ -5,7 +5,7 @@ ghost use Rattle.run_promise.specs.declared.ranges.TheConstants.{MAX_WORKERS};
 ghost use Rattle.updater.specs.Number.{in_range, number};
 ghost use Rattle.updater.specs.Options as spec;
 
-use crate::number::number_of;
+use crate::number::number_in;
 use geom_workers::Workers;
 use run_promise::{MAX_AHEAD, MAX_BUCKETS, MAX_READERS};
 
@@ -122,7 +122,7 @@ fn with_full(allowed: Allowed, options: Options) -> Option<Options>
 fn workers_in(value: &[u8]) -> Option<Workers>
     ensures workers { result ≡ in_range 1 MAX_WORKERS (number value.now) }
 {
-    Workers::new(number_of(value)?)
+    Workers::new(number_in(value)?)
 }
 
 /// As many workers as a command has whose options say nothing of them.
@@ -152,7 +152,7 @@ fn with_readers(allowed: Allowed, options: Options, value: &[u8]) -> Option<Opti
     ensures option { result ≡ spec.with_readers allowed options value.now }
     ensures range { spec.AreInRange options → IfSome result spec.AreInRange }
 {
-    let readers = number_of(value)?;
+    let readers = number_in(value)?;
     if !allowed.readers || options.readers.is_some() || readers < 1 || readers > MAX_READERS {
         return None;
     }
@@ -167,7 +167,7 @@ fn with_buckets(allowed: Allowed, options: Options, value: &[u8]) -> Option<Opti
     ensures option { result ≡ spec.with_buckets allowed options value.now }
     ensures range { spec.AreInRange options → IfSome result spec.AreInRange }
 {
-    let buckets = number_of(value)?;
+    let buckets = number_in(value)?;
     if !allowed.buckets
         || options.buckets.is_some()
         || !buckets.is_power_of_two()
@@ -186,7 +186,7 @@ fn with_ahead(allowed: Allowed, options: Options, value: &[u8]) -> Option<Option
     ensures option { result ≡ spec.with_ahead allowed options value.now }
     ensures range { spec.AreInRange options → IfSome result spec.AreInRange }
 {
-    let ahead = number_of(value)?;
+    let ahead = number_in(value)?;
     if !allowed.ahead || options.ahead.is_some() || ahead > MAX_AHEAD {
         return None;
     }

@@ -22,7 +22,7 @@ ghost use Rattle.updater.specs.commands.Demo as demo;
 use crate::file_reads::StyleFile;
 use crate::forms::Words;
 use crate::making::{MADE_BUCKETS, wants_empty};
-use crate::number::number_of;
+use crate::number::number_in;
 use crate::options::{Allowed, options_of, usual_workers};
 use crate::summary::summary_text;
 use crate::telling::tell;
@@ -76,7 +76,7 @@ fn squares_in(word: &[u8]) -> Option<Squares>
     if word.starts_with(b"0") {
         return None;
     }
-    let count = number_of(word)?;
+    let count = number_in(word)?;
     if count < 1 || count > MAX_SQUARES {
         return None;
     }

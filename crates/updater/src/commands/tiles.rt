@@ -13,7 +13,7 @@ ghost use Rattle.run_promise.specs.Courses.{tiles_of_store};
 ghost use Rattle.updater.specs.Works.{Does, KeepsOpen, NoFile};
 
 use crate::forms::Words;
-use crate::number::number_of;
+use crate::number::number_in;
 use crate::options::{Allowed, options_of};
 use crate::telling::tell_tiles;
 use crate::words::Command;
@@ -42,7 +42,7 @@ pub fn form(words: Words<'_>) -> Option<Command<'_>>
     let own = options_of(ALLOWED, words.options)?;
     match words.form {
         [store, zoom] => {
-            let least = number_of(zoom.as_bytes())?;
+            let least = number_in(zoom.as_bytes())?;
             if least > MAX_ZOOM {
                 return None;
             }
