@@ -8,8 +8,8 @@ use Rattle.osm_base.specs.declared.bounds.limits.LimitNumbers.{LimitNumbers}
 use Rattle.osm_base.specs.declared.values.row.Row.{Row}
 use Rattle.osm_base.specs.declared.values.row.RowChange.{RowChange}
 use Rattle.osm_base.specs.map.Spots.{SpotOf}
-use Rattle.row_store.proofs.ByteLaws.{row_bytes-low, row_bytes-some}
-use Rattle.row_store.specs.Row.{row_bytes}
+use Rattle.value_bytes.proofs.ByteLaws.{row_bytes-low, row_bytes-some}
+use Rattle.value_bytes.specs.Row.{row_bytes}
 use Rattle.store_maps.specs.Rows.{columns_in}
 use Rattle.style_read.specs.Style.{StyleOf}
 use Rattle.style_read.specs.declared.style.TableDef.{TableDef}

@@ -10,7 +10,7 @@ use Rattle.osm_base.specs.declared.values.row.Delta.{Delta}
 use Rattle.osm_base.specs.declared.values.row.Row.{Row}
 use Rattle.osm_base.specs.declared.values.row.RowChange.{RowChange}
 use Rattle.osm_base.specs.map.Spots.{SpotOf, TableMap, spot_cmp, spot_of}
-use Rattle.row_store.specs.Row.{row_bytes}
+use Rattle.value_bytes.specs.Row.{row_bytes}
 use Rattle.delta_feed.specs.declared.hexes.TheConstants.{LINE_BYTES}
 use Rattle.delta_feed.specs.declared.words.TheConstants.{SPACE}
 

@@ -1,9 +1,9 @@
 -- What a line makes of a block of which so much was read.
--- What a row is spelled as is said by row_store and not calculated, so this is said and not calculated where a row ends.
+-- What a row is spelled as is said by value_bytes and not calculated, so this is said and not calculated where a row ends.
 use Rattle.std.specs.Prelude.{◌≡◌, ◌⊎◌, ◌<◌, ◌≤◌, ℕ, List, length, ◌++◌, Bool, true, false, if◌then◌else◌, Option, None, Some, Result, Ok, Err}
 use Rattle.osm_base.specs.declared.values.row.Row.{Row}
 use Rattle.osm_base.specs.map.Spots.{SpotOf}
-use Rattle.row_store.specs.Row.{row_bytes, IsRow}
+use Rattle.value_bytes.specs.Row.{row_bytes, IsRow}
 use Rattle.store_maps.specs.Rows.{columns_in}
 use Rattle.style_read.specs.Reading.{reading}
 use Rattle.style_read.specs.Style.{StyleOf}

@@ -5,7 +5,7 @@ use Rattle.osm_base.specs.declared.values.row.Row.{Row}
 use Rattle.osm_base.specs.declared.values.row.RowChange.{RowChange}
 use Rattle.osm_base.specs.map.Spots.{SpotOf}
 use Rattle.osm_base.specs.values.Key.{IsId}
-use Rattle.row_store.specs.Row.{IsRow}
+use Rattle.value_bytes.specs.Row.{IsRow}
 use Rattle.store_maps.specs.Rows.{columns_in}
 use Rattle.style_read.specs.declared.style.TableDef.{TableDef}
 use Rattle.delta_feed.specs.Blocks.{limit_at}

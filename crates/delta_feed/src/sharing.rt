@@ -13,9 +13,9 @@ use object_fold::WorkerCount;
 use osm_base::{OutOfMemory, Row, Spot};
 use outside::{Failed, Sink, put_all};
 use rayon::prelude::*;
-use row_store::SortedRows;
 use std::alloc::Global;
 use std::thread::Threads;
+use store_maps::SortedRows;
 
 /// How many rows are worth a thread of their own.
 const LEAST: usize = 2_048;

@@ -8,10 +8,10 @@ ghost use Rattle.delta_feed.specs.Why.{Gives, IsRowFault, Shows};
 use crate::block::{BlockBox, Head, RowsBox, Stage};
 use crate::{FeedLine, FeedWhy, LineRefused};
 use osm_base::{Bytes, Items, Row, Spot};
-use row_store::read_row;
 use std::alloc::Global;
+use store_maps::columns_of;
 use style_read::{Style, StyleFault, read_style};
-use value_bytes::ValueFault;
+use value_bytes::{ValueFault, read_row};
 
 /// What a line made of a block.
 #[derive(Drop)]
@@ -297,10 +297,11 @@ fn row_in(alloc: Global, style: &Style, table: u32, bytes: &[u8]) -> Result<Row,
     ensures row { IfOk result (IsRowOf style.now.tables table bytes.now) }
     ensures refused { IfErr result (IsRowFault (IsNoRow style.now.tables table bytes.now)) }
 {
-    if style.tables.as_slice().len() <= table as usize {
+    let tables = style.tables.as_slice();
+    if tables.len() <= table as usize {
         return Err(LineRefused::Bad(FeedWhy::Row));
     }
-    match read_row(alloc, style, table, bytes) {
+    match read_row(alloc, columns_of(tables, table as usize), bytes) {
         Ok(row) => Ok(row),
         Err(ValueFault::NotSpelled) => Err(LineRefused::Bad(FeedWhy::Row)),
         Err(ValueFault::OutOfMemory) => Err(LineRefused::OutOfMemory),

@@ -7,8 +7,8 @@ ghost use Rattle.delta_feed.specs.Text.{delta_line, del_line, ended_line, full_l
 use crate::LINE_BYTES;
 use crate::hexes::push_hex;
 use osm_base::{Kind, OutOfMemory, Row, Spot};
-use row_store::row_bytes;
 use std::alloc::Global;
+use value_bytes::row_bytes;
 
 /// Appends the line that begins whole tables.
 #[tactic(auto, unfolding(crate::specs::Text::full_line))]

@@ -1,11 +1,9 @@
-pub mod ByteLaws
 pub mod ClearLaws
 pub mod LoadLaws
 pub mod LookLaws
 pub mod Manual
 pub mod MapTables
 pub mod OrderLaws
-pub mod RowLaws
 pub mod RowsLaws
 pub mod SpelledLaws
 pub mod TableLaws

@@ -12,7 +12,7 @@ use Rattle.value_bytes.specs.Forms.{Begins, IsFront, IsFrontless, Spells, IsNoVa
 use Rattle.value_bytes.specs.Numbers.{number_bytes, IsNumber}
 use Rattle.value_bytes.proofs.ListLaws.{all_bytes-append, each_append}
 use Rattle.value_bytes.proofs.NumberLaws.{length-number_bytes}
-use Rattle.row_store.specs.Row.{row_bytes, IsRow}
+use Rattle.value_bytes.specs.Row.{row_bytes, IsRow}
 use Rattle.row_store.specs.Rows.{table_row_bytes, IsTableRow, rows_bytes, AreSpelled}
 use Rattle.store_maps.specs.Rows.{columns_in, RiseFrom, Fits}
 

@@ -2,6 +2,5 @@ pub mod Clearing
 pub mod Loading
 pub mod Maps
 pub mod Places
-pub mod Row
 pub mod Rows
 pub mod Tables

@@ -6,7 +6,7 @@ use Rattle.style_read.specs.declared.style.TableDef.{TableDef}
 use Rattle.store_maps.specs.Rows.{AreRising, columns_in}
 use Rattle.value_bytes.specs.Forms.{all_bytes}
 use Rattle.value_bytes.specs.Numbers.{number_bytes}
-use Rattle.row_store.specs.Row.{row_bytes, IsRow}
+use Rattle.value_bytes.specs.Row.{row_bytes, IsRow}
 
 -- the number of a table, and the row
 unfoldable pub table_row_bytes : TableRow → List ℕ

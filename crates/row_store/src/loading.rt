@@ -12,13 +12,14 @@ ghost use Rattle.value_bytes.specs.declared.store_map.StoreMap.TheVariants.{Node
 
 use crate::filling::Filled;
 use crate::read_rows;
-use crate::sorted::{Gathered, SortedRows};
+use crate::sorted::Gathered;
 use bucket_records::Records;
 use bucket_store::{Buckets, refuse_value};
 use osm_base::{Bytes, Key, Kind, MAX_ID, OutOfMemory, Spot, TableRow, TableRows, Tables};
 use outside::Disk;
 use page_journal::StoreFault;
 use std::alloc::Global;
+use store_maps::SortedRows;
 use style_read::Style;
 use value_bytes::{StoreMap, ValueFault};
 

@@ -3,15 +3,15 @@ ghost use Rattle.std.specs.Prelude.{◌≡◌, ◌++◌, ◌<◌, ◌≤◌, ◌
 ghost use Rattle.std.specs.List.{AllByRecursion};
 ghost use Rattle.style_read.specs.declared.style.TheConstants.{MAX_TABLES};
 ghost use Rattle.value_bytes.specs.Forms.{Spells, IsNoValue, IsFront, IsFrontless, NeedsFor};
-ghost use Rattle.row_store.specs.Row.{IsRow};
+ghost use Rattle.value_bytes.specs.Row.{IsRow};
 ghost use Rattle.row_store.specs.Rows.{table_row_bytes, IsTableRow, rows_bytes, AreRows, AreSpelled};
 ghost use Rattle.store_maps.specs.Rows.{AreRising, Fits, AreKept};
 
-use crate::row::{USUAL_BYTES, columns_of, front_row, push_row};
 use osm_base::{Bytes, Items, OutOfMemory, TableRow, TableRows};
 use std::alloc::Global;
+use store_maps::columns_of;
 use style_read::{Style, TableDef};
-use value_bytes::{ValueFault, front_number, push_number};
+use value_bytes::{USUAL_BYTES, ValueFault, front_number, front_row, push_number, push_row};
 
 /// The bytes of the rows of an object.
 pub fn rows_bytes(alloc: Global, style: &Style, rows: &TableRows) -> Result<Bytes, OutOfMemory>

@@ -8,41 +8,10 @@ use crate::filling::Filled;
 use osm_base::{Kind, OutOfMemory, Row, Spot, Tables, TryCopy};
 use std::alloc::Global;
 use std::marker::Model;
+use store_maps::SortedRows;
 
 /// So many numbers stand for ids.
 const ID_NUMBERS: u64 = 18_014_398_509_481_984;
-
-/// Rows by strictly rising spots.
-#[derive(Drop)]
-pub struct SortedRows {
-    rows: Vec<(Spot, Row)>,
-}
-
-impl Model for SortedRows {
-    ghost use Rattle.std.specs.Prelude.{T};
-    ghost use Rattle.std.specs.FinMap as finite;
-    ghost use Rattle.osm_base.specs.declared.values.row.Row.{Row};
-    ghost use Rattle.osm_base.specs.map.Spots.{spot_cmp};
-    ghost use Rattle.osm_base.specs.contracts.map.tables.Spot as spot;
-    ghost use Rattle.osm_base.specs.contracts.values.row.Row as row;
-
-    ghost Value = { finite.FinMap spot_cmp Row };
-
-    ghost coded = { finite.code spot.the_row.coded row.the_row.coded };
-
-    ghost view = { λ sorted. finite.from_sorted sorted.rows.items };
-
-    ghost invariant = { λ sorted. T (finite.is_sorted spot_cmp sorted.rows.items) };
-}
-
-impl SortedRows {
-    /// The rows with their spots, in order.
-    pub fn rows(&self) -> &[(Spot, Row)]
-        ensures rows { result.now ≡ finite.entries self.now }
-    {
-        self.rows.as_slice()
-    }
-}
 
 /// Rows in any order. Of a spot the row counts that came last.
 #[derive(Drop)]
@@ -82,7 +51,7 @@ impl Gathered {
         let Self { mut rows } = self;
         rows.sort_by_cached_key(|entry: &(Spot, Row)| place_of(entry.0))?;
         if are_rising(&rows) {
-            return Ok(SortedRows { rows });
+            return Ok(SortedRows::from_rising(rows));
         }
         by_tree(alloc, rows)
     }
@@ -148,5 +117,5 @@ fn copied(alloc: Global, tables: &Tables) -> Result<SortedRows, OutOfMemory>
     for (spot, row) in tables.rows() {
         rows.push((*spot, row.copy(alloc)?))?;
     }
-    Ok(SortedRows { rows })
+    Ok(SortedRows::from_rising(rows))
 }

@@ -36,9 +36,9 @@ use geom_workers::Hands;
 use object_fold::Change;
 use osm_base::{Bytes, Delta, Limits, RowChanges, Tables};
 use outside::{Disk, Gate};
-use row_store::SortedRows;
 use std::alloc::Global;
 use std::thread::Threads;
+use store_maps::SortedRows;
 use style_read::Style;
 use tile_cover::{Bounds, TileRuns};
 

@@ -16,8 +16,9 @@ use bucket_store::Buckets;
 use osm_base::Tables;
 use outside::Disk;
 use page_journal::StoreFault;
-use row_store::{SortedRows, load, load_sorted as load_in_order};
+use row_store::{load, load_sorted as load_in_order};
 use std::alloc::Global;
+use store_maps::SortedRows;
 use style_read::Style;
 
 /// The rows of one table of a store with this style, or of all. `BadStore` comes with the root page where there are no buckets.

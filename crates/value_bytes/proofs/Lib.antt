@@ -1,9 +1,10 @@
+pub mod ByteLaws
 pub mod CountedLaws
 pub mod Fronts
 pub mod ListLaws
 pub mod Made
-pub mod MapNumbers
 pub mod MapLaws
+pub mod MapNumbers
 pub mod MemberLaws
 pub mod NodeLaws
 pub mod NumberLaws
@@ -15,3 +16,4 @@ pub mod Seen
 pub mod TagLaws
 pub mod TextLaws
 pub mod Variants
+pub mod WholeRowLaws

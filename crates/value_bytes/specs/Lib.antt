@@ -7,6 +7,7 @@ pub mod Numbers
 pub mod Objects
 pub mod Options
 pub mod Places
+pub mod Row
 pub mod Rows
 pub mod StoreMap
 pub mod Tags

@@ -14,7 +14,7 @@ use crate::over_disk::{due_on, rows_on, sorted_on, style_bytes_on};
 use osm_base::{Bytes, Tables};
 use outside::Disk;
 use page_journal::StoreFault;
-use row_store::SortedRows;
+use store_maps::SortedRows;
 use tile_cover::TileRuns;
 
 impl<D: Disk> Updater<'_, D> {

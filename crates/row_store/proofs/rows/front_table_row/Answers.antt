@@ -1,5 +1,5 @@
 use Rattle.std.proofs.Common.{refl, subst, arith}
-use Rattle.row_store.specs.Row.{row_bytes, IsRow}
+use Rattle.value_bytes.specs.Row.{row_bytes, IsRow}
 use Rattle.row_store.proofs.RowsLaws.{table_row_front, table_row_no_number, table_row_no_table, table_row_no_row, shorter}
 use Rattle.row_store.proofs.rows.front_table_row.Goals as goal
 use Rattle.value_bytes.specs.Forms.{IsFront, IsFrontless}

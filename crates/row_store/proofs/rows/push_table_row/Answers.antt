@@ -1,5 +1,5 @@
 use Rattle.std.proofs.Common.{◌≡◌, ap, ◌∙◌, List, ℕ, ◌++◌, rules}
-use Rattle.row_store.specs.Row.{row_bytes}
+use Rattle.value_bytes.specs.Row.{row_bytes}
 use Rattle.row_store.proofs.RowsLaws.{table_row_put}
 use Rattle.row_store.proofs.rows.push_table_row.Goals as goal
 use Rattle.value_bytes.specs.Numbers.{number_bytes}

@@ -9,12 +9,12 @@ use Rattle.osm_base.proofs.SpotOrder.{tree_cmp}
 use Rattle.row_store.proofs.OrderLaws.{SpotRows, rising_is, tree_rises}
 use Rattle.row_store.proofs.sorted.copied.Goals as goal
 
-pub invariant_of-result : goal.invariant_of-result
-invariant_of-result c =
+pub from_rising-requires : goal.from_rising-requires
+from_rising-requires c =
     let tree = c.rows-spot-items.result.now in
     let all : map deref_pair c.loop-spot.yielded ≡ tree.entries = search (rules, iter_end) in
     let ordered : IsOrdered tree_cmp tree = search rules in
-    subst (λ (rows : SpotRows). T (is_sorted spot_cmp rows)) (sym (c.loop-spot.invariant ∙ all)) (tree_rises tree ordered)
+    record { rising = subst (λ (rows : SpotRows). T (is_sorted spot_cmp rows)) (sym (c.loop-spot.invariant ∙ all)) (tree_rises tree ordered) }
 
 pub returns : goal.returns
 returns c =
@@ -22,6 +22,6 @@ returns c =
     let all : map deref_pair c.loop-spot.yielded ≡ tree.entries = search (rules, iter_end) in
     let ordered : IsOrdered tree_cmp tree = search rules in
     record {
-      same = ap (λ (rows : SpotRows). finite.from_sorted {R = spot_cmp} rows) (c.loop-spot.invariant ∙ all)
+      same = c.from_rising.ensures.same ∙ ap (λ (rows : SpotRows). finite.from_sorted {R = spot_cmp} rows) (c.loop-spot.invariant ∙ all)
           ∙ rising_is tree.entries (tree_rises tree ordered) ∙ c.rows-spot-items.ensures.rows;
     }

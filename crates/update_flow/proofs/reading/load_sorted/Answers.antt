@@ -4,7 +4,7 @@ use Rattle.row_store.specs.Loading.{AreTold}
 use Rattle.style_read.specs.Style.{StyleOf}
 use Rattle.update_flow.specs.Within.{IsSound, Runs}
 use Rattle.update_flow.specs.declared.fault.FlowFault.{FlowFault}
-use Rattle.row_store.specs.declared.sorted.SortedRows.{SortedRows}
+use Rattle.store_maps.specs.declared.sorted_rows.SortedRows.{SortedRows}
 use Rattle.row_store.proofs.MapTables.{nodes_told, others_told, wanted_row}
 use Rattle.update_flow.proofs.Loading.{all_loaded, sound_id, told_nodes, told_others}
 use Rattle.update_flow.proofs.Openings.{sound_store}

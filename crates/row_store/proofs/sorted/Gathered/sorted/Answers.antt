@@ -12,7 +12,7 @@ pub returns-then-are_rising : goal.returns-then-are_rising
 returns-then-are_rising c =
     let other = c.sort_by_cached_key.new.self.items in
     record {
-      same = rising_turned other (subst (λ (own : SpotRows). T (is_sorted spot_cmp own)) c.deref.ensures.value (c.if-are_rising.ensures.rising refl))
+      same = c.from_rising.ensures.same ∙ rising_turned other (subst (λ (own : SpotRows). T (is_sorted spot_cmp own)) c.deref.ensures.value (c.if-are_rising.ensures.rising refl))
           ∙ same_sorted place_number c.self.inside.rows.items other c.sort_by_cached_key.ensures.stable (λ a r q k. search rules)
           ∙ c.self.view_is;
     }

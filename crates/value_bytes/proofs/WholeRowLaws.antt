@@ -7,7 +7,7 @@ use Rattle.value_bytes.specs.Forms.{IsFront, IsFrontless, both_bytes, Both, all_
 use Rattle.value_bytes.specs.Rows.{cell_bytes, IsCell, geometry_bytes, IsGeometry}
 use Rattle.value_bytes.proofs.Fronts.{front_both, frontless_first, frontless_second}
 use Rattle.value_bytes.proofs.Seen.{AreSeen, front_seen, frontless_seen}
-use Rattle.row_store.specs.Row.{row_bytes, IsRow}
+use Rattle.value_bytes.specs.Row.{row_bytes, IsRow}
 
 -- the cells and the geometry
 abbrev pub cells_bytes : List Cell → List ℕ

@@ -1,7 +1,7 @@
 use Rattle.std.proofs.Common.{ap, sym, ◌∙◌}
 use Rattle.std.specs.FinMap as finite
 use Rattle.osm_base.specs.map.Spots.{spot_cmp}
-use Rattle.row_store.proofs.sorted.SortedRows.rows.Goals as goal
+use Rattle.store_maps.proofs.sorted_rows.SortedRows.rows.Goals as goal
 
 pub returns : goal.returns
 returns c = record {

@@ -1,5 +1,5 @@
-use Rattle.row_store.proofs.RowLaws.{row_front, row_no_cells, row_no_geometry}
-use Rattle.row_store.proofs.row.front_row.Goals as goal
+use Rattle.value_bytes.proofs.WholeRowLaws.{row_front, row_no_cells, row_no_geometry}
+use Rattle.value_bytes.proofs.row.front_row.Goals as goal
 use Rattle.value_bytes.proofs.Fronts.{needs_more}
 
 pub returns-in-Err-clause-refused : goal.returns-in-Err-clause-refused

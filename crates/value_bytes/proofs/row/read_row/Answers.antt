@@ -1,7 +1,7 @@
 use Rattle.std.proofs.Common.{ap, List, ℕ, length}
 use Rattle.std.specs.Prelude.{◌==◌}
-use Rattle.row_store.specs.Row.{row_bytes, IsRow}
-use Rattle.row_store.proofs.row.whole_row.Goals as goal
+use Rattle.value_bytes.specs.Row.{row_bytes, IsRow}
+use Rattle.value_bytes.proofs.row.read_row.Goals as goal
 use Rattle.value_bytes.proofs.Fronts.{needs_more, no_value, no_value_behind}
 
 pub returns-in-Err-clause-refused : goal.returns-in-Err-clause-refused

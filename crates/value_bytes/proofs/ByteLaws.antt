@@ -17,7 +17,7 @@ use Rattle.value_bytes.specs.Numbers.{counted_bytes, int_bytes, number_bytes}
 use Rattle.value_bytes.specs.Places.{four_bytes, place_bytes}
 use Rattle.value_bytes.specs.Rows.{IsCell, cell_bytes, geometry_bytes, line_bytes, lines_bytes}
 use Rattle.value_bytes.specs.Texts.{IsText, text_bytes}
-use Rattle.row_store.specs.Row.{IsRow, row_bytes}
+use Rattle.value_bytes.specs.Row.{IsRow, row_bytes}
 
 abbrev Bytes : List ℕ → Type 0
 Bytes bytes = AllByRecursion (λ byte. byte < 256) bytes

@@ -1,16 +1,14 @@
 //! A row in bytes.
-ghost use Rattle.std.specs.Prelude.{◌≡◌, ◌++◌, ◌<◌, length, IfOk, IfErr, OnOk};
+ghost use Rattle.std.specs.Prelude.{◌≡◌, ◌++◌, length, IfOk, IfErr, OnOk};
 ghost use Rattle.value_bytes.specs.Forms.{Spells, IsNoValue, IsFront, IsFrontless, NeedsFor};
-ghost use Rattle.row_store.specs.Row.{row_bytes, IsRow};
-ghost use Rattle.store_maps.specs.Rows.{columns_in};
+ghost use Rattle.value_bytes.specs.Row.{row_bytes, IsRow};
 
+use crate::{Spelled, ValueFault, front_many, push_many};
 use osm_base::{Bytes, Cells, Geometry, Items, OutOfMemory, Row};
 use std::alloc::Global;
-use style_read::{Style, TableDef};
-use value_bytes::{Spelled, ValueFault, front_many, push_many};
 
 /// The bytes that few rows are longer than, for which there is room from the start.
-pub(crate) const USUAL_BYTES: usize = 256;
+pub const USUAL_BYTES: usize = 256;
 
 /// The bytes of the cells of a row and of its geometry.
 pub fn row_bytes(alloc: Global, row: &Row) -> Result<Bytes, OutOfMemory>
@@ -22,21 +20,8 @@ pub fn row_bytes(alloc: Global, row: &Row) -> Result<Bytes, OutOfMemory>
     Ok(Items::from_vec(out))
 }
 
-/// The row with these bytes, with a cell for each column of the table.
-pub fn read_row(alloc: Global, style: &Style, table: u32, bytes: &[u8]) -> Result<Row, ValueFault>
-    requires { table < length style.now.tables }
-    ensures row { IfOk result (Spells row_bytes (IsRow (columns_in style.now.tables table)) bytes.now) }
-    ensures refused { IfErr result (NeedsFor (IsNoValue row_bytes (IsRow (columns_in style.now.tables table)) bytes.now)) }
-{
-    whole_row(
-        alloc,
-        columns_of(style.tables.as_slice(), table as usize),
-        bytes,
-    )
-}
-
 /// The row of so many cells with these bytes.
-fn whole_row(alloc: Global, columns: u64, bytes: &[u8]) -> Result<Row, ValueFault>
+pub fn read_row(alloc: Global, columns: u64, bytes: &[u8]) -> Result<Row, ValueFault>
     ensures row { IfOk result (Spells row_bytes (IsRow columns) bytes.now) }
     ensures refused { IfErr result (NeedsFor (IsNoValue row_bytes (IsRow columns) bytes.now)) }
 {
@@ -50,16 +35,8 @@ fn whole_row(alloc: Global, columns: u64, bytes: &[u8]) -> Result<Row, ValueFaul
     Ok(row)
 }
 
-/// How many columns a table has.
-pub(crate) fn columns_of(tables: &[TableDef], table: usize) -> u64
-    requires { table < length tables.now }
-    ensures columns { result ≡ columns_in tables.now table }
-{
-    tables[table].columns.as_slice().len() as u64
-}
-
 /// The row of so many cells at the front, and the bytes behind it.
-pub(crate) fn front_row<'b>(
+pub fn front_row<'b>(
     alloc: Global,
     columns: u64,
     bytes: &'b [u8],
@@ -79,7 +56,7 @@ pub(crate) fn front_row<'b>(
 }
 
 /// Puts the bytes of a row behind those that are there.
-pub(crate) fn push_row(out: &mut Vec<u8>, row: &Row) -> Result<(), OutOfMemory>
+pub fn push_row(out: &mut Vec<u8>, row: &Row) -> Result<(), OutOfMemory>
     ensures ok { OnOk result (out.new.items ≡ out.old.items ++ row_bytes row.now) }
     ensures is { OnOk result (IsRow (length row.now.cells) row.now) }
 {

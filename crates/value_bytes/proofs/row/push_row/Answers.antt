@@ -1,6 +1,6 @@
 use Rattle.std.proofs.Common.{ap, ◌∙◌, List, ℕ, ◌++◌}
-use Rattle.row_store.proofs.RowLaws.{cells_bytes, row_put}
-use Rattle.row_store.proofs.row.push_row.Goals as goal
+use Rattle.value_bytes.proofs.WholeRowLaws.{cells_bytes, row_put}
+use Rattle.value_bytes.proofs.row.push_row.Goals as goal
 use Rattle.value_bytes.specs.Rows.{geometry_bytes}
 
 pub returns-clause-ok : goal.returns-clause-ok
