@@ -28,7 +28,7 @@ use Rattle.back_index.specs.Ids.{ids_bytes, AreListed}
 use Rattle.back_index.specs.Index.{HasNodes, HoldsIndex, HoldsWays, IsDamaged, all_visits}
 use Rattle.back_index.specs.Relisting.{IsUnread}
 use Rattle.back_index.specs.Visits.{IsFine, Refuses, StopsAt}
-use Rattle.value_bytes.specs.StoreMap.{number_of}
+use Rattle.value_bytes.specs.StoreMap.{map_number}
 use Rattle.value_bytes.specs.declared.store_map.StoreMap.{StoreMap}
 use Rattle.value_bytes.specs.declared.store_map.StoreMap.TheVariants.{Ways, WaysOfBlocks, RelationsOfNodes, RelationsOfWays}
 use Rattle.back_index.specs.declared.visit.Visit.{Visit}
@@ -92,20 +92,20 @@ module _ {D : Type 0} {g : Ghosts D} (buckets : Buckets D g) (now : Image) (maps
     (holds : HoldsWays now maps) (are : WaysAreThere maps) where
   none_damaged : (at : ℕ) → IsDamaged buckets now at → ⊥
   none_damaged at (inl bad) = elim bad.is_index [
-    | inl is ↦ unread_held now (number_of WaysOfBlocks) bad.id maps.ways_of_blocks index.ways_of_blocks
-        (subst (λ (m : StoreMap). IsUnread (finite.get (now.maps (number_of m)) bad.id)) is bad.unread)
+    | inl is ↦ unread_held now (map_number WaysOfBlocks) bad.id maps.ways_of_blocks index.ways_of_blocks
+        (subst (λ (m : StoreMap). IsUnread (finite.get (now.maps (map_number m)) bad.id)) is bad.unread)
     | inr other ↦ elim other [
-      | inl is ↦ unread_held now (number_of RelationsOfNodes) bad.id maps.relations_of_nodes index.relations_of_nodes
-          (subst (λ (m : StoreMap). IsUnread (finite.get (now.maps (number_of m)) bad.id)) is bad.unread)
-      | inr is ↦ unread_held now (number_of RelationsOfWays) bad.id maps.relations_of_ways index.relations_of_ways
-          (subst (λ (m : StoreMap). IsUnread (finite.get (now.maps (number_of m)) bad.id)) is bad.unread)
+      | inl is ↦ unread_held now (map_number RelationsOfNodes) bad.id maps.relations_of_nodes index.relations_of_nodes
+          (subst (λ (m : StoreMap). IsUnread (finite.get (now.maps (map_number m)) bad.id)) is bad.unread)
+      | inr is ↦ unread_held now (map_number RelationsOfWays) bad.id maps.relations_of_ways index.relations_of_ways
+          (subst (λ (m : StoreMap). IsUnread (finite.get (now.maps (map_number m)) bad.id)) is bad.unread)
     ]
   ]
   none_damaged at (inr bad) =
-      let found = finite.get (now.maps (number_of WaysOfBlocks)) bad.block in
+      let found = finite.get (now.maps (map_number WaysOfBlocks)) bad.block in
       let same = reads_one found bad.ids (finite.get maps.ways_of_blocks bad.block) bad.reads (index.ways_of_blocks bad.block) in
       let some = are bad.block bad.way (ap (λ (l : List ℕ). has l bad.way) (sym same) ∙ bad.said) in
-      bad.none (way_nodes (finite.get (now.maps (number_of Ways)) bad.way) (finite.get maps.ways bad.way) some (holds bad.way))
+      bad.none (way_nodes (finite.get (now.maps (map_number Ways)) bad.way) (finite.get maps.ways bad.way) some (holds bad.way))
 
   -- a question is refused for the disk or for want of memory alone
   pub questions_allowed : (fault : StoreFault) → Refuses (IsDamaged buckets now) fault → Refuses (λ at. ⊥) fault

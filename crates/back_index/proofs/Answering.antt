@@ -14,7 +14,7 @@ use Rattle.bucket_store.specs.Buckets.{bucket_count}
 use Rattle.bucket_store.specs.Image.{Has, Image}
 use Rattle.bucket_store.specs.Transaction.{chains_of, has_refused}
 use Rattle.bucket_store.specs.declared.buckets.Buckets.{Buckets}
-use Rattle.back_index.specs.Calls.{Answers}
+use Rattle.back_index.specs.Calls.{IsAnswered}
 use Rattle.store_maps.specs.Asked.{May, MayAnswer}
 use Rattle.store_maps.specs.Maps.{Maps}
 use Rattle.back_index.specs.Index.{Asked, Bears, IsDamaged, Knows, is_spent}
@@ -59,16 +59,16 @@ module _ {D : Type 0} {g : Ghosts D} where
       (neither (has_refused buckets) (is_broken (journal_of (chains_of buckets)) || nat_eq (bucket_count (chains_of buckets)) 0) fresh).1).1
 
   module _ (old new : Buckets D g) (fresh : is_spent old ≡ false) where
-    still_fresh : {T : Type 0} (value : T) → Answers old new (Ok value) → is_spent new ≡ false
+    still_fresh : {T : Type 0} (value : T) → IsAnswered old new (Ok value) → is_spent new ≡ false
     still_fresh value answers = λ i.
         answers.refused i || ((answers.broken ∙ or_none (is_broken (journal_of (chains_of old))) ∙ spent_whole old fresh) i
         || none_count (bucket_count (chains_of new))
         (subst (λ (n : ℕ). 1 ≤ n) (sym (count_same old new answers.stays)) (spent_some old fresh)) i)
 
-    pub fresh_after : {T : Type 0} (value : T) → Answers old new (Ok value) → is_spent new ≡ false
+    pub fresh_after : {T : Type 0} (value : T) → IsAnswered old new (Ok value) → is_spent new ≡ false
     fresh_after value answers = still_fresh value answers
 
-    pub asked_ok : {T : Type 0} (questions : List Question) (value : T) (stopped : Option StoreFault) → Answers old new (Ok value)
+    pub asked_ok : {T : Type 0} (questions : List Question) (value : T) (stopped : Option StoreFault) → IsAnswered old new (Ok value)
         → ((rest now : Image) → Has rest now old → Has rest now new)
         → ((rest now : Image) → Has rest now old → (maps : Maps) → IndexHeld now maps → (may : May)
         → AllByRecursion (MayAnswer may maps) questions → HasReadOnly may old → HasReadOnly may new)
@@ -96,7 +96,7 @@ module _ {D : Type 0} {g : Ghosts D} where
     the_same fault other is = cc (is)
 
     pub asked_err : {T : Type 0} (questions : List Question) (fault : StoreFault) (stopped : Option StoreFault)
-        → Answers {T = T} old new (Err fault)
+        → IsAnswered {T = T} old new (Err fault)
         → (is_disk_fault fault ≡ false → (rest now : Image) → Has rest now old → Has rest now new)
         → ((rest now : Image) → Has rest now old → Refuses (IsDamaged old now) fault) → Asked questions old stopped new (Some fault)
     asked_err questions fault stopped answers has stops = record {
@@ -114,7 +114,7 @@ module _ {D : Type 0} {g : Ghosts D} where
       within = λ rest now owns maps index may all only. reads_refused may new answers.refused;
     }
 
-    pub borne : {T : Type 0} (fault : StoreFault) → Answers {T = T} old new (Err fault)
+    pub borne : {T : Type 0} (fault : StoreFault) → IsAnswered {T = T} old new (Err fault)
         → Bears new (Some fault) (disk_of (chains_of old)).faults fault
     borne NotFormatted answers = absurd answers.alone
     borne NotEmpty answers = absurd answers.alone
@@ -137,6 +137,6 @@ module _ {D : Type 0} {g : Ghosts D} where
   }
 
   -- an index that is spent keeps nothing
-  pub spent_refused : {T : Type 0} (old new : Buckets D g) (fault : StoreFault) → Answers {T = T} old new (Err fault) → is_spent new ≡ false
+  pub spent_refused : {T : Type 0} (old new : Buckets D g) (fault : StoreFault) → IsAnswered {T = T} old new (Err fault) → is_spent new ≡ false
       → ⊥
   spent_refused old new fault answers fresh = clash (has_refused new) answers.refused (spent_going new fresh)

@@ -23,7 +23,7 @@ use Rattle.bucket_store.proofs.Holding.{has_later}
 use Rattle.bucket_store.specs.declared.buckets.Buckets.{Buckets}
 use Rattle.value_bytes.specs.declared.fault.ValueFault.{ValueFault}
 use Rattle.value_bytes.specs.declared.fault.ValueFault.TheVariants as faults
-use Rattle.back_index.specs.Calls.{Answers, Marks, page_in}
+use Rattle.back_index.specs.Calls.{IsAnswered, Marks, page_in}
 use Rattle.back_index.specs.Asking.{read_same, read_then, rose_later}
 use Rattle.back_index.specs.Visits.{Refuses}
 
@@ -34,10 +34,10 @@ or_none false = refl
 module _ {D : Type 0} {g : Ghosts D} where
   -- no call has been refused so far
   abbrev pub StillAnswers : Buckets D g → Buckets D g → Type 0
-  StillAnswers old new = Answers {T = Unit {0}} old new (Ok tt)
+  StillAnswers old new = IsAnswered {T = Unit {0}} old new (Ok tt)
 
   -- answers, one call after another
-  pub answers_none : {T : Type 0} (buckets : Buckets D g) (value : T) → has_refused buckets ≡ false → Answers buckets buckets (Ok value)
+  pub answers_none : {T : Type 0} (buckets : Buckets D g) (value : T) → has_refused buckets ≡ false → IsAnswered buckets buckets (Ok value)
   answers_none buckets value going = record {
     stays = read_same (chains_of buckets);
     alone = tt;
@@ -46,9 +46,9 @@ module _ {D : Type 0} {g : Ghosts D} where
     cause = record { later = omega arith; failed = λ is. absurd (cc) };
   }
 
-  pub answers_then : {S T : Type 0} (old mid new : Buckets D g) (value : S) (result : Result T StoreFault) → Answers old mid (Ok value)
-      → Answers mid new result
-      → Answers old new result
+  pub answers_then : {S T : Type 0} (old mid new : Buckets D g) (value : S) (result : Result T StoreFault) → IsAnswered old mid (Ok value)
+      → IsAnswered mid new result
+      → IsAnswered old new result
   answers_then old mid new value result first second =
       let same : is_broken (journal_of (chains_of mid)) ≡ is_broken (journal_of (chains_of old)) =
       first.broken ∙ or_none (is_broken (journal_of (chains_of old))) in
@@ -65,7 +65,7 @@ module _ {D : Type 0} {g : Ghosts D} where
       }
 
   -- the same of a call that gives another value
-  pub answers_ok : {S T : Type 0} (old new : Buckets D g) (one : S) (other : T) → Answers old new (Ok one) → Answers old new (Ok other)
+  pub answers_ok : {S T : Type 0} (old new : Buckets D g) (one : S) (other : T) → IsAnswered old new (Ok one) → IsAnswered old new (Ok other)
   answers_ok old new one other first = record {
     stays = first.stays;
     alone = tt;
@@ -75,16 +75,16 @@ module _ {D : Type 0} {g : Ghosts D} where
   }
 
   -- a call that is refused for a value
-  pub answers_marks : {S T : Type 0} (old mid new : Buckets D g) (value : S) (fault : ValueFault) (page : ℕ) → Answers old mid (Ok value)
+  pub answers_marks : {S T : Type 0} (old mid new : Buckets D g) (value : S) (fault : ValueFault) (page : ℕ) → IsAnswered old mid (Ok value)
       → Marks mid new
-      → Answers {T = T} old new (Err (refusal_of fault page))
+      → IsAnswered {T = T} old new (Err (refusal_of fault page))
   answers_marks {S} {T} old mid new value fault page first marks =
       answers_then old mid new value (Err (refusal_of fault page)) first (marked fault)
     where
       sames : Chains D g
       sames = chains_of mid
 
-      marked : (fault : ValueFault) → Answers {T = T} mid new (Err (refusal_of fault page))
+      marked : (fault : ValueFault) → IsAnswered {T = T} mid new (Err (refusal_of fault page))
       marked faults.NotSpelled = record {
         stays = subst (OnlyRead (chains_of mid)) (sym marks.chains) (read_same (chains_of mid));
         alone = tt;
@@ -101,13 +101,13 @@ module _ {D : Type 0} {g : Ghosts D} where
       }
 
   pub answers_marks_same : {T : Type 0} (old new : Buckets D g) (fault : ValueFault) (page : ℕ) → has_refused old ≡ false → Marks old new
-      → Answers {T = T} old new (Err (refusal_of fault page))
+      → IsAnswered {T = T} old new (Err (refusal_of fault page))
   answers_marks_same {T} old new fault page going marks =
       answers_marks {S = ℕ} {T = T} old old new 0 fault page (answers_none {T = ℕ} old 0 going) marks
 
   -- the same refusal of a call that gives another value
-  pub answers_err : {S T : Type 0} (old new : Buckets D g) (fault : StoreFault) → Answers {T = S} old new (Err fault)
-      → Answers {T = T} old new (Err fault)
+  pub answers_err : {S T : Type 0} (old new : Buckets D g) (fault : StoreFault) → IsAnswered {T = S} old new (Err fault)
+      → IsAnswered {T = T} old new (Err fault)
   answers_err old new NotFormatted first = absurd first.alone
   answers_err old new NotEmpty first = absurd first.alone
   answers_err old new (BadStore page) first = record {
@@ -202,7 +202,7 @@ module _ {D : Type 0} {g : Ghosts D} where
   count_same old new stays = ap (λ (r : Root). r.buckets) stays.root
 
   -- after a call that is not refused the next one may come
-  pub ready_after : {T : Type 0} (old new : Buckets D g) (value : T) → IsReady old → Answers old new (Ok value) → IsReady new
+  pub ready_after : {T : Type 0} (old new : Buckets D g) (value : T) → IsReady old → IsAnswered old new (Ok value) → IsReady new
   ready_after old new value ready answers = record {
     going = answers.refused;
     some = subst (λ (n : ℕ). 1 ≤ n) (sym (count_same old new answers.stays)) ready.some;

@@ -20,7 +20,7 @@ use Rattle.store_maps.specs.Asked.{May}
 use Rattle.store_maps.specs.Maps.{unless_empty}
 use Rattle.store_maps.specs.Turns.{IsListing, Told}
 use Rattle.store_maps.proofs.IdLists.{same_as, tied_self}
-use Rattle.back_index.specs.Filling.{AreIds, AreKept, ByIds, IsKeptAt, IsVoid, MayTold, Runs, is_told, mentions_tell}
+use Rattle.back_index.specs.Filling.{AreIds, AreKept, ByIds, IsKeptAt, IsVoid, MayTold, MentionRuns, is_told, mentions_tell}
 use Rattle.back_index.specs.Ids.{ids_bytes, AreListed}
 use Rattle.back_index.specs.Relisting.{kept_list}
 use Rattle.back_index.specs.declared.mentions.Mention.{Mention}
@@ -90,7 +90,7 @@ none_above (mention ∷ done) at next by lt below =
     next by lt below.1 i)
 
 -- nothing is told yet
-pub runs_none : (at : ℕ) (kept : BucketMap) → IsVoid kept → Runs [] at [] kept
+pub runs_none : (at : ℕ) (kept : BucketMap) → IsVoid kept → MentionRuns [] at [] kept
 runs_none at kept void = record {
   beside = λ id apart. record { ids = []; rising = no_ids; same = λ by. refl; list = void id };
   here = λ by. refl;
@@ -99,8 +99,8 @@ runs_none at kept void = record {
 
 -- one more of the list that is not put yet
 pub runs_more : (done : List Mention) (at : ℕ) (ids : List ℕ) (kept : BucketMap) (mention : Mention) → mention.id ≡ at
-    → Runs done at ids kept
-    → Runs (done ++ mention ∷ []) at (ids ++ mention.own ∷ []) kept
+    → MentionRuns done at ids kept
+    → MentionRuns (done ++ mention ∷ []) at (ids ++ mention.own ∷ []) kept
 runs_more done at ids kept mention is runs = record {
   beside = λ id apart.
       let was = runs.beside id apart in
@@ -119,7 +119,7 @@ runs_more done at ids kept mention is runs = record {
 }
 
 -- the list that was not put yet is put
-pub runs_kept : (done : List Mention) (at : ℕ) (ids list : List ℕ) (kept after : BucketMap) → Runs done at ids kept → AreRisingIds list
+pub runs_kept : (done : List Mention) (at : ℕ) (ids list : List ℕ) (kept after : BucketMap) → MentionRuns done at ids kept → AreRisingIds list
     → ((id : ℕ) → has list id ≡ has ids id) → finite.get after at ≡ kept_list list
     → ((id : ℕ) → id ≢ at → finite.get after id ≡ finite.get kept id)
     → AreKept (mentions_tell done) after
@@ -138,9 +138,9 @@ runs_kept done at ids list kept after runs rising same here beside id =
     told_not e = absurd (cc)
 
 -- and another one begins
-pub runs_next : (done : List Mention) (at next : ℕ) (ids : List ℕ) (kept after : BucketMap) → Runs done at ids kept → at < next
+pub runs_next : (done : List Mention) (at next : ℕ) (ids : List ℕ) (kept after : BucketMap) → MentionRuns done at ids kept → at < next
     → AreKept (mentions_tell done) after
-    → Runs done next [] after
+    → MentionRuns done next [] after
 runs_next done at next ids kept after runs lt are = record {
   beside = λ id apart. are id;
   here = λ by. sym (none_above done at next by lt runs.below);

@@ -17,7 +17,7 @@ use Rattle.store_maps.proofs.IdLists.{tied_self}
 use Rattle.back_index.specs.Filling.{AreKept, Fills, HasNoIndex, IsVoid, MayTold, is_told, mentions_tell}
 use Rattle.back_index.specs.Visits.{OnlyMap}
 use Rattle.back_index.specs.declared.mentions.Mention.{Mention}
-use Rattle.value_bytes.specs.StoreMap.{number_of}
+use Rattle.value_bytes.specs.StoreMap.{map_number}
 use Rattle.value_bytes.specs.declared.store_map.StoreMap.TheVariants.{WaysOfBlocks, RelationsOfNodes, RelationsOfWays}
 use Rattle.back_index.proofs.Held.{no_ids}
 use Rattle.back_index.proofs.ReadKeys.{all_has}
@@ -48,14 +48,14 @@ stays_void : (which other : ℕ) (now after : Image) → OnlyMap other now after
 stays_void which other now after only differs void = subst IsVoid (sym (only.maps which differs)) void
 
 module _ (entries : List Entry) (now first second third : Image) (none : HasNoIndex now)
-    (one : OnlyMap (number_of WaysOfBlocks) now first)
-    (blocks : IsVoid (now.maps (number_of WaysOfBlocks)) → Kept (entries_tell kinds.Way blocks_in entries) (number_of WaysOfBlocks) first)
-    (two : OnlyMap (number_of RelationsOfNodes) first second)
-    (nodes : IsVoid (first.maps (number_of RelationsOfNodes))
-    → Kept (entries_tell kinds.Relation (listed kinds.Node) entries) (number_of RelationsOfNodes) second)
-    (three : OnlyMap (number_of RelationsOfWays) second third)
-    (ways : IsVoid (second.maps (number_of RelationsOfWays))
-    → Kept (entries_tell kinds.Relation (listed kinds.Way) entries) (number_of RelationsOfWays) third)
+    (one : OnlyMap (map_number WaysOfBlocks) now first)
+    (blocks : IsVoid (now.maps (map_number WaysOfBlocks)) → Kept (entries_tell kinds.Way blocks_in entries) (map_number WaysOfBlocks) first)
+    (two : OnlyMap (map_number RelationsOfNodes) first second)
+    (nodes : IsVoid (first.maps (map_number RelationsOfNodes))
+    → Kept (entries_tell kinds.Relation (listed kinds.Node) entries) (map_number RelationsOfNodes) second)
+    (three : OnlyMap (map_number RelationsOfWays) second third)
+    (ways : IsVoid (second.maps (map_number RelationsOfWays))
+    → Kept (entries_tell kinds.Relation (listed kinds.Way) entries) (map_number RelationsOfWays) third)
   where
     pub all_filled : Fills entries now third
     all_filled = record {
@@ -63,22 +63,22 @@ module _ (entries : List Entry) (now first second third : Image) (none : HasNoIn
       texts = λ n. three.texts n ∙ two.texts n ∙ one.texts n;
       maps = λ m a b c. three.maps m c ∙ two.maps m b ∙ one.maps m a;
       ways_of_blocks =
-          stays_kept (entries_tell kinds.Way blocks_in entries) (number_of WaysOfBlocks) (number_of RelationsOfWays) second third three
-          (apart (number_of WaysOfBlocks) (number_of RelationsOfWays) refl)
-          (stays_kept (entries_tell kinds.Way blocks_in entries) (number_of WaysOfBlocks) (number_of RelationsOfNodes) first second two
-          (apart (number_of WaysOfBlocks) (number_of RelationsOfNodes) refl)
+          stays_kept (entries_tell kinds.Way blocks_in entries) (map_number WaysOfBlocks) (map_number RelationsOfWays) second third three
+          (apart (map_number WaysOfBlocks) (map_number RelationsOfWays) refl)
+          (stays_kept (entries_tell kinds.Way blocks_in entries) (map_number WaysOfBlocks) (map_number RelationsOfNodes) first second two
+          (apart (map_number WaysOfBlocks) (map_number RelationsOfNodes) refl)
           (blocks none.ways_of_blocks));
       relations_of_nodes =
-          stays_kept (entries_tell kinds.Relation (listed kinds.Node) entries) (number_of RelationsOfNodes)
-          (number_of RelationsOfWays) second third three
-          (apart (number_of RelationsOfNodes) (number_of RelationsOfWays) refl)
-          (nodes (stays_void (number_of RelationsOfNodes) (number_of WaysOfBlocks) now first one
-          (apart (number_of RelationsOfNodes) (number_of WaysOfBlocks) refl) none.relations_of_nodes));
+          stays_kept (entries_tell kinds.Relation (listed kinds.Node) entries) (map_number RelationsOfNodes)
+          (map_number RelationsOfWays) second third three
+          (apart (map_number RelationsOfNodes) (map_number RelationsOfWays) refl)
+          (nodes (stays_void (map_number RelationsOfNodes) (map_number WaysOfBlocks) now first one
+          (apart (map_number RelationsOfNodes) (map_number WaysOfBlocks) refl) none.relations_of_nodes));
       relations_of_ways =
-          ways (stays_void (number_of RelationsOfWays) (number_of RelationsOfNodes) first second two
-          (apart (number_of RelationsOfWays) (number_of RelationsOfNodes) refl)
-          (stays_void (number_of RelationsOfWays) (number_of WaysOfBlocks) now first one
-          (apart (number_of RelationsOfWays) (number_of WaysOfBlocks) refl) none.relations_of_ways));
+          ways (stays_void (map_number RelationsOfWays) (map_number RelationsOfNodes) first second two
+          (apart (map_number RelationsOfWays) (map_number RelationsOfNodes) refl)
+          (stays_void (map_number RelationsOfWays) (map_number WaysOfBlocks) now first one
+          (apart (map_number RelationsOfWays) (map_number WaysOfBlocks) refl) none.relations_of_ways));
     }
 
 -- what entries tell is of lists that may be asked
@@ -109,22 +109,22 @@ all_wider P Q [] wider all = tt
 all_wider P Q (entry ∷ entries) wider all = (wider entry all.0, all_wider P Q entries wider all.1)
 
 module _ (may : May) (entries : List Entry) (all : MayListAll may entries) where
-  pub blocks_may : MayTold may (number_of WaysOfBlocks) (entries_tell kinds.Way blocks_in entries)
-  blocks_may = told_may may (number_of WaysOfBlocks) kinds.Way blocks_in entries
+  pub blocks_may : MayTold may (map_number WaysOfBlocks) (entries_tell kinds.Way blocks_in entries)
+  blocks_may = told_may may (map_number WaysOfBlocks) kinds.Way blocks_in entries
       (all_wider (λ (entry : Entry). MayList may entry.key entry.object)
-      (λ (entry : Entry). MayEach may (number_of WaysOfBlocks) (ids_for kinds.Way blocks_in entry.key.kind entry.object)) entries
+      (λ (entry : Entry). MayEach may (map_number WaysOfBlocks) (ids_for kinds.Way blocks_in entry.key.kind entry.object)) entries
       (λ entry lists. lists.ways_of_blocks) all)
 
-  pub nodes_may : MayTold may (number_of RelationsOfNodes) (entries_tell kinds.Relation (listed kinds.Node) entries)
-  nodes_may = told_may may (number_of RelationsOfNodes) kinds.Relation (listed kinds.Node) entries
+  pub nodes_may : MayTold may (map_number RelationsOfNodes) (entries_tell kinds.Relation (listed kinds.Node) entries)
+  nodes_may = told_may may (map_number RelationsOfNodes) kinds.Relation (listed kinds.Node) entries
       (all_wider (λ (entry : Entry). MayList may entry.key entry.object)
-      (λ (entry : Entry). MayEach may (number_of RelationsOfNodes) (ids_for kinds.Relation (listed kinds.Node) entry.key.kind entry.object))
+      (λ (entry : Entry). MayEach may (map_number RelationsOfNodes) (ids_for kinds.Relation (listed kinds.Node) entry.key.kind entry.object))
       entries
       (λ entry lists. lists.relations_of_nodes) all)
 
-  pub ways_may : MayTold may (number_of RelationsOfWays) (entries_tell kinds.Relation (listed kinds.Way) entries)
-  ways_may = told_may may (number_of RelationsOfWays) kinds.Relation (listed kinds.Way) entries
+  pub ways_may : MayTold may (map_number RelationsOfWays) (entries_tell kinds.Relation (listed kinds.Way) entries)
+  ways_may = told_may may (map_number RelationsOfWays) kinds.Relation (listed kinds.Way) entries
       (all_wider (λ (entry : Entry). MayList may entry.key entry.object)
-      (λ (entry : Entry). MayEach may (number_of RelationsOfWays) (ids_for kinds.Relation (listed kinds.Way) entry.key.kind entry.object))
+      (λ (entry : Entry). MayEach may (map_number RelationsOfWays) (ids_for kinds.Relation (listed kinds.Way) entry.key.kind entry.object))
       entries
       (λ entry lists. lists.relations_of_ways) all)

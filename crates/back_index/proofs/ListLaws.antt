@@ -34,8 +34,8 @@ pub ids-without_id : (own : ℕ) (ids : List ℕ) → AreRisingIds ids → AreRi
 ids-without_id own ids are = (without_id-rise own ids are.0, all-filter IsId (λ id. not (nat_eq own id)) ids are.1)
 
 -- what `RisingIds` makes of them
-pub joined : (own : ℕ) (old new : List ℕ) → IsRising old → IsRising new → Joins own old new → new ≡ with_id own old
-joined own old new rise risen joins =
+pub joined_ids : (own : ℕ) (old new : List ℕ) → IsRising old → IsRising new → Joins own old new → new ≡ with_id own old
+joined_ids own old new rise risen joins =
     same_rising new (with_id own old) risen (with_id-rise own old rise) (λ id. joins id ∙ sym (has-with_id own old id))
 
 pub left : (own : ℕ) (old new : List ℕ) → IsRising old → IsRising new → Leaves own old new → new ≡ without_id own old

@@ -21,7 +21,7 @@ use Rattle.back_index.specs.Ids.{ids_bytes, AreListed}
 use Rattle.back_index.specs.Index.{HoldsIndex, Relists, all_visits, listed_for}
 use Rattle.back_index.specs.Relisting.{CanTurn, Turns, in_order}
 use Rattle.back_index.specs.Visits.{IsFine, OnlyMap, StopsAt, visit_of, visits}
-use Rattle.value_bytes.specs.StoreMap.{number_of}
+use Rattle.value_bytes.specs.StoreMap.{map_number}
 use Rattle.value_bytes.specs.declared.store_map.StoreMap.{StoreMap}
 use Rattle.value_bytes.specs.declared.store_map.StoreMap.TheVariants.{WaysOfBlocks, RelationsOfNodes, RelationsOfWays}
 use Rattle.back_index.specs.declared.visit.Visit.{Visit}
@@ -51,56 +51,56 @@ module _ (id : ℕ) (old new : Option Object) where
     root = refl;
     texts = λ n. refl;
     maps = λ m a b c. refl;
-    ways_of_blocks = turns_nothing id (now.maps (number_of WaysOfBlocks));
-    relations_of_nodes = turns_nothing id (now.maps (number_of RelationsOfNodes));
-    relations_of_ways = turns_nothing id (now.maps (number_of RelationsOfWays));
+    ways_of_blocks = turns_nothing id (now.maps (map_number WaysOfBlocks));
+    relations_of_nodes = turns_nothing id (now.maps (map_number RelationsOfNodes));
+    relations_of_ways = turns_nothing id (now.maps (map_number RelationsOfWays));
   }
 
-  pub way_relists : (now after : Image) → OnlyMap (number_of WaysOfBlocks) now after
-      → Turns id (listed_by blocks_in old) (listed_by blocks_in new) (now.maps (number_of WaysOfBlocks))
-      (after.maps (number_of WaysOfBlocks))
+  pub way_relists : (now after : Image) → OnlyMap (map_number WaysOfBlocks) now after
+      → Turns id (listed_by blocks_in old) (listed_by blocks_in new) (now.maps (map_number WaysOfBlocks))
+      (after.maps (map_number WaysOfBlocks))
       → Relists (way_key id) old new now after
   way_relists now after only turns = record {
     root = only.root;
     texts = only.texts;
     maps = λ m a b c. only.maps m a;
     ways_of_blocks = turns;
-    relations_of_nodes = turns_to id [] [] (now.maps (number_of RelationsOfNodes)) (now.maps (number_of RelationsOfNodes))
-        (after.maps (number_of RelationsOfNodes))
-        (only.maps (number_of RelationsOfNodes) (apart (number_of RelationsOfNodes) (number_of WaysOfBlocks) refl))
-        (turns_nothing id (now.maps (number_of RelationsOfNodes)));
-    relations_of_ways = turns_to id [] [] (now.maps (number_of RelationsOfWays)) (now.maps (number_of RelationsOfWays))
-        (after.maps (number_of RelationsOfWays))
-        (only.maps (number_of RelationsOfWays) (apart (number_of RelationsOfWays) (number_of WaysOfBlocks) refl))
-        (turns_nothing id (now.maps (number_of RelationsOfWays)));
+    relations_of_nodes = turns_to id [] [] (now.maps (map_number RelationsOfNodes)) (now.maps (map_number RelationsOfNodes))
+        (after.maps (map_number RelationsOfNodes))
+        (only.maps (map_number RelationsOfNodes) (apart (map_number RelationsOfNodes) (map_number WaysOfBlocks) refl))
+        (turns_nothing id (now.maps (map_number RelationsOfNodes)));
+    relations_of_ways = turns_to id [] [] (now.maps (map_number RelationsOfWays)) (now.maps (map_number RelationsOfWays))
+        (after.maps (map_number RelationsOfWays))
+        (only.maps (map_number RelationsOfWays) (apart (map_number RelationsOfWays) (map_number WaysOfBlocks) refl))
+        (turns_nothing id (now.maps (map_number RelationsOfWays)));
   }
 
-  pub relation_relists : (now mid after : Image) → OnlyMap (number_of RelationsOfNodes) now mid
-      → Turns id (listed_by (listed kinds.Node) old) (listed_by (listed kinds.Node) new) (now.maps (number_of RelationsOfNodes))
-      (mid.maps (number_of RelationsOfNodes))
-      → OnlyMap (number_of RelationsOfWays) mid after
-      → Turns id (listed_by (listed kinds.Way) old) (listed_by (listed kinds.Way) new) (mid.maps (number_of RelationsOfWays))
-      (after.maps (number_of RelationsOfWays))
+  pub relation_relists : (now mid after : Image) → OnlyMap (map_number RelationsOfNodes) now mid
+      → Turns id (listed_by (listed kinds.Node) old) (listed_by (listed kinds.Node) new) (now.maps (map_number RelationsOfNodes))
+      (mid.maps (map_number RelationsOfNodes))
+      → OnlyMap (map_number RelationsOfWays) mid after
+      → Turns id (listed_by (listed kinds.Way) old) (listed_by (listed kinds.Way) new) (mid.maps (map_number RelationsOfWays))
+      (after.maps (map_number RelationsOfWays))
       → Relists (relation_key id) old new now after
   relation_relists now mid after first nodes second ways = record {
     root = second.root ∙ first.root;
     texts = λ n. second.texts n ∙ first.texts n;
     maps = λ m a b c. second.maps m c ∙ first.maps m b;
-    ways_of_blocks = turns_to id [] [] (now.maps (number_of WaysOfBlocks)) (now.maps (number_of WaysOfBlocks))
-        (after.maps (number_of WaysOfBlocks))
-        (second.maps (number_of WaysOfBlocks) (apart (number_of WaysOfBlocks) (number_of RelationsOfWays) refl)
-        ∙ first.maps (number_of WaysOfBlocks) (apart (number_of WaysOfBlocks) (number_of RelationsOfNodes) refl))
-        (turns_nothing id (now.maps (number_of WaysOfBlocks)));
+    ways_of_blocks = turns_to id [] [] (now.maps (map_number WaysOfBlocks)) (now.maps (map_number WaysOfBlocks))
+        (after.maps (map_number WaysOfBlocks))
+        (second.maps (map_number WaysOfBlocks) (apart (map_number WaysOfBlocks) (map_number RelationsOfWays) refl)
+        ∙ first.maps (map_number WaysOfBlocks) (apart (map_number WaysOfBlocks) (map_number RelationsOfNodes) refl))
+        (turns_nothing id (now.maps (map_number WaysOfBlocks)));
     relations_of_nodes = turns_to id (listed_by (listed kinds.Node) old) (listed_by (listed kinds.Node) new)
-        (now.maps (number_of RelationsOfNodes))
-        (mid.maps (number_of RelationsOfNodes))
-        (after.maps (number_of RelationsOfNodes))
-        (second.maps (number_of RelationsOfNodes) (apart (number_of RelationsOfNodes) (number_of RelationsOfWays) refl)) nodes;
+        (now.maps (map_number RelationsOfNodes))
+        (mid.maps (map_number RelationsOfNodes))
+        (after.maps (map_number RelationsOfNodes))
+        (second.maps (map_number RelationsOfNodes) (apart (map_number RelationsOfNodes) (map_number RelationsOfWays) refl)) nodes;
     relations_of_ways = turns_from id (listed_by (listed kinds.Way) old) (listed_by (listed kinds.Way) new)
-        (mid.maps (number_of RelationsOfWays))
-        (after.maps (number_of RelationsOfWays))
-        (now.maps (number_of RelationsOfWays)) (first.maps (number_of RelationsOfWays)
-        (apart (number_of RelationsOfWays) (number_of RelationsOfNodes) refl)) ways;
+        (mid.maps (map_number RelationsOfWays))
+        (after.maps (map_number RelationsOfWays))
+        (now.maps (map_number RelationsOfWays)) (first.maps (map_number RelationsOfWays)
+        (apart (map_number RelationsOfWays) (map_number RelationsOfNodes) refl)) ways;
   }
 
 -- a law of the visits of a map, told of each id
@@ -127,7 +127,7 @@ all_visited P which old new each = all_map P (visit_of which old new) (in_order 
 
 -- lists that were turned could be
 pub turned_fine : (now : Image) (own : ℕ) (which : StoreMap) (old new : List ℕ) (after : BucketMap)
-    → Turns own old new (now.maps (number_of which)) after
+    → Turns own old new (now.maps (map_number which)) after
     → AllByRecursion (IsFine now own) (visits which old new)
 turned_fine now own which old new after turns =
     all_visited (IsFine now own) which old new (λ id there. let at = turns.at id there in (at.0, at.1))
@@ -161,11 +161,11 @@ stops_as Fine Other page xs at same stops =
 
 -- of another map the same lists can be turned
 pub fine_as : (now mid : Image) (own : ℕ) (which : StoreMap) (other : ℕ) (old new : List ℕ) → OnlyMap other now mid
-    → number_of which ≢ other
+    → map_number which ≢ other
     → AllByRecursion (λ visit. (IsFine mid own visit → IsFine now own visit) × (IsFine now own visit → IsFine mid own visit))
     (visits which old new)
 fine_as now mid own which other old new only differs =
-    let same : mid.maps (number_of which) ≡ now.maps (number_of which) = only.maps (number_of which) differs in
+    let same : mid.maps (map_number which) ≡ now.maps (map_number which) = only.maps (map_number which) differs in
     all_visited (λ visit. (IsFine mid own visit → IsFine now own visit) × (IsFine now own visit → IsFine mid own visit)) which old new
     (λ id there. (
       (λ fine. (fine.0, subst (λ (l : BucketMap). CanTurn (has old id) own (finite.get l id) fine.0) same fine.1)),
@@ -178,29 +178,29 @@ pub relists_hold : (key : KeyOf) (old new : Option Object) (now after : Image) (
     → HoldsIndex after (relisted_to maps key old new)
 relists_hold key old new now after maps is holds relists = record {
   ways_of_blocks = turned_held key.id (listed_for WaysOfBlocks key old) (listed_for WaysOfBlocks key new)
-      (now.maps (number_of WaysOfBlocks))
-      (after.maps (number_of WaysOfBlocks)) maps.ways_of_blocks is
+      (now.maps (map_number WaysOfBlocks))
+      (after.maps (map_number WaysOfBlocks)) maps.ways_of_blocks is
       holds.ways_of_blocks relists.ways_of_blocks;
   relations_of_nodes = turned_held key.id (listed_for RelationsOfNodes key old) (listed_for RelationsOfNodes key new)
-      (now.maps (number_of RelationsOfNodes))
-      (after.maps (number_of RelationsOfNodes)) maps.relations_of_nodes is
+      (now.maps (map_number RelationsOfNodes))
+      (after.maps (map_number RelationsOfNodes)) maps.relations_of_nodes is
       holds.relations_of_nodes relists.relations_of_nodes;
   relations_of_ways = turned_held key.id (listed_for RelationsOfWays key old) (listed_for RelationsOfWays key new)
-      (now.maps (number_of RelationsOfWays))
-      (after.maps (number_of RelationsOfWays)) maps.relations_of_ways is
+      (now.maps (map_number RelationsOfWays))
+      (after.maps (map_number RelationsOfWays)) maps.relations_of_ways is
       holds.relations_of_ways relists.relations_of_ways;
 }
 
 -- where an index holds the old form, each list can be turned
 told_one : (now : Image) (own : ℕ) (which : StoreMap) (old new : List ℕ) (listing : ListingOf)
-    → HoldsMap ids_bytes AreListed (now.maps (number_of which)) listing
+    → HoldsMap ids_bytes AreListed (now.maps (map_number which)) listing
     → AllListed listing own old
     → AllByRecursion (IsFine now own) (visits which old new)
 told_one now own which old new listing holds told =
     all_visited (IsFine now own) which old new (λ id there. (
       listers listing id,
       record {
-        reads = decoded_reads (finite.get (now.maps (number_of which)) id) (finite.get listing id) (holds id);
+        reads = decoded_reads (finite.get (now.maps (map_number which)) id) (finite.get listing id) (holds id);
         there = λ was. each_of (λ id. has (listers listing id) own ≡ true) old id told was;
       },
     ))

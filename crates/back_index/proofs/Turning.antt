@@ -14,7 +14,7 @@ use Rattle.osm_base.specs.values.Ids.{IsRising, has}
 use Rattle.bucket_records.specs.Records.{BucketMap}
 use Rattle.bucket_store.specs.Image.{Image, with_value}
 use Rattle.bucket_store.proofs.Images.{entry_here, entry_beside, maps_here, maps_beside, root_with_value, texts_with_value}
-use Rattle.value_bytes.specs.StoreMap.{number_of}
+use Rattle.value_bytes.specs.StoreMap.{map_number}
 use Rattle.value_bytes.specs.declared.store_map.StoreMap.{StoreMap}
 use Rattle.store_maps.specs.Step.{with_id, without_id}
 use Rattle.store_maps.proofs.IdLists.{same_as}
@@ -110,10 +110,10 @@ true_not false is none = absurd (cc)
 
 -- and one more
 module _ (own : ℕ) (m : StoreMap) (old new done : List ℕ) (now mid after : Image) (id : ℕ) (ids : List ℕ) (fresh : has done id ≡ false)
-    (first : TurnsAt own old new done (now.maps (number_of m)) (mid.maps (number_of m)))
-    (can : CanTurn (has old id) own (finite.get (mid.maps (number_of m)) id) ids)
-    (sets : Sets (number_of m) id (kept_list (turned (has old id) (has new id) own ids)) mid after) where
-  now_can : CanTurn (has old id) own (finite.get (now.maps (number_of m)) id) ids
+    (first : TurnsAt own old new done (now.maps (map_number m)) (mid.maps (map_number m)))
+    (can : CanTurn (has old id) own (finite.get (mid.maps (map_number m)) id) ids)
+    (sets : Sets (map_number m) id (kept_list (turned (has old id) (has new id) own ids)) mid after) where
+  now_can : CanTurn (has old id) own (finite.get (now.maps (map_number m)) id) ids
   now_can = subst (λ (o : Option (List ℕ)). CanTurn (has old id) own o ids) (first.others id fresh) can
 
   pub fine_more : IsFine now own (visit_of m old new id)
@@ -131,24 +131,24 @@ module _ (own : ℕ) (m : StoreMap) (old new done : List ℕ) (now mid after : I
     itself same = grind (arith, nat_tests)
 
   at_more : (other : ℕ) (b c : Bool) → has done other ≡ b → nat_eq id other ≡ c → (b || (c || false)) ≡ true
-      → (ids : List ℕ) × CanTurn (has old other) own (finite.get (now.maps (number_of m)) other) ids
-      × (finite.get (after.maps (number_of m)) other ≡ kept_list (turned (has old other) (has new other) own ids))
+      → (ids : List ℕ) × CanTurn (has old other) own (finite.get (now.maps (map_number m)) other) ids
+      × (finite.get (after.maps (map_number m)) other ≡ kept_list (turned (has old other) (has new other) own ids))
   at_more other true c there same some =
       let was = first.at other there in
       (was.0, was.1, sets.beside other (apart_of other there) ∙ was.2)
   at_more other false true there same some =
-      subst (λ k. (ids : List ℕ) × CanTurn (has old k) own (finite.get (now.maps (number_of m)) k) ids
-      × (finite.get (after.maps (number_of m)) k ≡ kept_list (turned (has old k) (has new k) own ids))) (same_as id other same)
+      subst (λ k. (ids : List ℕ) × CanTurn (has old k) own (finite.get (now.maps (map_number m)) k) ids
+      × (finite.get (after.maps (map_number m)) k ≡ kept_list (turned (has old k) (has new k) own ids))) (same_as id other same)
       (ids, now_can, sets.here)
   at_more other false false there same some = absurd (cc)
 
   others_more : (other : ℕ) (b c : Bool) → has done other ≡ b → nat_eq id other ≡ c → (b || (c || false)) ≡ false
-      → finite.get (after.maps (number_of m)) other ≡ finite.get (now.maps (number_of m)) other
+      → finite.get (after.maps (map_number m)) other ≡ finite.get (now.maps (map_number m)) other
   others_more other true c there same none = absurd (cc)
   others_more other false true there same none = absurd (cc)
   others_more other false false there same none = sets.beside other (differs other same) ∙ first.others other there
 
-  pub turns_more : TurnsAt own old new (done ++ id ∷ []) (now.maps (number_of m)) (after.maps (number_of m))
+  pub turns_more : TurnsAt own old new (done ++ id ∷ []) (now.maps (map_number m)) (after.maps (map_number m))
   turns_more = record {
     at = λ other there. at_more other (has done other) (nat_eq id other) refl refl (sym (one_more other) ∙ there);
     others = λ other none. others_more other (has done other) (nat_eq id other) refl refl (sym (one_more other) ∙ none);

@@ -20,7 +20,7 @@ use Rattle.store_maps.specs.Named.{list_it}
 use Rattle.store_maps.proofs.IdLists.{same_as}
 use Rattle.back_index.specs.Index.{HasNodes, HoldsWays}
 use Rattle.back_index.specs.Visits.{StopsAt}
-use Rattle.value_bytes.specs.StoreMap.{number_of}
+use Rattle.value_bytes.specs.StoreMap.{map_number}
 use Rattle.value_bytes.specs.declared.store_map.StoreMap.TheVariants.{Ways}
 
 lists_nodes : (bytes : Option (List ℕ)) (object : Option Object) (nodes : List ℕ) (id : ℕ)
@@ -36,10 +36,10 @@ lists_nodes (Some bytes) (Some (Way own tags)) nodes id is front =
 
 -- a way lists a node where its front does
 pub way_lists : (now : Image) (maps : Maps) (way node : ℕ) (nodes : List ℕ) → HoldsWays now maps
-    → HasNodes (finite.get (now.maps (number_of Ways)) way) nodes
+    → HasNodes (finite.get (now.maps (map_number Ways)) way) nodes
     → list_it maps node way ≡ has nodes node
 way_lists now maps way node nodes holds front =
-    lists_nodes (finite.get (now.maps (number_of Ways)) way) (finite.get maps.ways way) nodes node (holds way) front
+    lists_nodes (finite.get (now.maps (map_number Ways)) way) (finite.get maps.ways way) nodes node (holds way) front
 
 -- the ways so far, and one more
 filter_one : (test : ℕ → Bool) (way : ℕ) (b : Bool) → test way ≡ b → filter test (way ∷ []) ≡ (if b then way ∷ [] else [])

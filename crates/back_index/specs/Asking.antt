@@ -18,7 +18,7 @@ use Rattle.bucket_store.specs.Image.{Image}
 use Rattle.bucket_store.specs.Transaction.{chains_of, has_refused}
 use Rattle.bucket_store.specs.declared.buckets.Buckets.{Buckets}
 use Rattle.store_maps.specs.Asked.{MayAnswer}
-use Rattle.value_bytes.specs.StoreMap.{number_of}
+use Rattle.value_bytes.specs.StoreMap.{map_number}
 use Rattle.value_bytes.specs.declared.store_map.StoreMap.TheVariants.{WaysOfBlocks}
 use Rattle.back_index.specs.Calls.{page_in}
 use Rattle.back_index.specs.Index.{Asked, Bears, IsDamaged}
@@ -77,7 +77,7 @@ module _ {D : Type 0} {g : Ghosts D} where
     id = bad.id;
     is_index = bad.is_index;
     unread = bad.unread;
-    page_is = bad.page_is ∙ page_stays old new (number_of bad.own) bad.id stays;
+    page_is = bad.page_is ∙ page_stays old new (map_number bad.own) bad.id stays;
   })
   damaged_before old new now at stays (inr bad) = inr (record {
     block = bad.block;
@@ -86,7 +86,7 @@ module _ {D : Type 0} {g : Ghosts D} where
     way = bad.way;
     said = bad.said;
     none = bad.none;
-    page_is = bad.page_is ∙ page_stays old new (number_of WaysOfBlocks) bad.block stays;
+    page_is = bad.page_is ∙ page_stays old new (map_number WaysOfBlocks) bad.block stays;
   })
 
   refuses_before : (old new : Buckets D g) (now : Image) (fault : StoreFault) → OnlyRead (chains_of old) (chains_of new)

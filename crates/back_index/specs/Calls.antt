@@ -12,7 +12,7 @@ use Rattle.bucket_store.specs.Transaction.{chains_of, has_refused}
 use Rattle.bucket_store.specs.declared.buckets.Buckets.{Buckets}
 use Rattle.osm_base.specs.values.Ids.{AreRisingIds}
 use Rattle.store_maps.specs.Asked.{May}
-use Rattle.value_bytes.specs.StoreMap.{number_of}
+use Rattle.value_bytes.specs.StoreMap.{map_number}
 use Rattle.back_index.specs.Reads.{HasReadOnly, ReadsBuckets}
 use Rattle.back_index.specs.Visits.{Refuses}
 use Rattle.back_index.specs.declared.visit.Visit.{Visit}
@@ -22,11 +22,11 @@ abbrev pub page_in : {D : Type 0} {g : Ghosts D} → Buckets D g → ℕ → ℕ
 page_in buckets which key = first_of (chains_of buckets) (chain_at (bucket_count (chains_of buckets)) which key)
 
 abbrev pub page_at : {D : Type 0} {g : Ghosts D} → Buckets D g → Visit → ℕ
-page_at buckets visit = page_in buckets (number_of visit.map) visit.id
+page_at buckets visit = page_in buckets (map_number visit.map) visit.id
 
 -- the store at rest was only looked at; the answer is one of a call that reads, each refusal with its cause, and the
 -- transaction has refused a call where it is one
-pub record Answers {D T : Type 0} {g : Ghosts D} (old new : Buckets D g) (result : Result T StoreFault) : Type 0 where
+pub record IsAnswered {D T : Type 0} {g : Ghosts D} (old new : Buckets D g) (result : Result T StoreFault) : Type 0 where
   pub stays : OnlyRead (chains_of old) (chains_of new)
   pub alone : IsReadAnswer (is_broken (journal_of (chains_of old))) result
   pub broken : is_broken (journal_of (chains_of new)) ≡ (is_broken (journal_of (chains_of old)) || answers_disk_fault result)
@@ -37,7 +37,7 @@ pub record Answers {D T : Type 0} {g : Ghosts D} (old new : Buckets D g) (result
 -- these; on a store that means something it is refused for the disk, for want of memory, or for a page where there is such damage.
 pub record TouchesLists {D T : Type 0} {g : Ghosts D} (Keys : May → Type 0) (Damage : Image → ℕ → Type 0) (old new : Buckets D g)
     (result : Result T StoreFault) : Type 0 where
-  pub answers : Answers old new result
+  pub answers : IsAnswered old new result
   pub reads : OnOk result (ReadsBuckets old new)
   pub stops : (rest now : Image) → Has rest now old → IfErr result (Refuses (Damage now))
   pub within : (may : May) → Keys may → HasReadOnly may old → HasReadOnly may new

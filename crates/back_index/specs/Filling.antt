@@ -11,7 +11,7 @@ use Rattle.store_maps.specs.Asked.{May}
 use Rattle.outside.specs.declared.disk.Disk.{Ghosts}
 use Rattle.bucket_store.specs.declared.buckets.Buckets.{Buckets}
 use Rattle.store_maps.specs.Turns.{Told}
-use Rattle.value_bytes.specs.StoreMap.{number_of}
+use Rattle.value_bytes.specs.StoreMap.{map_number}
 use Rattle.value_bytes.specs.declared.store_map.StoreMap.{StoreMap}
 use Rattle.value_bytes.specs.declared.store_map.StoreMap.TheVariants.{WaysOfBlocks, RelationsOfNodes, RelationsOfWays}
 use Rattle.back_index.specs.Listed.{map_told}
@@ -59,26 +59,26 @@ AreKept told kept = (id : ℕ) → IsKeptAt told kept id
 -- in the transaction the lists of this map, where it had none, are those that are told, and all else is as before
 abbrev pub FillsMap : {D : Type 0} {g : Ghosts D} → StoreMap → Told → Buckets D g → Buckets D g → Type 0
 FillsMap own told old new = (rest now : Image) → Has rest now old → (after : Image) × Has rest after new
-    × OnlyMap (number_of own) now after × (IsVoid (now.maps (number_of own)) → AreKept told (after.maps (number_of own)))
+    × OnlyMap (map_number own) now after × (IsVoid (now.maps (map_number own)) → AreKept told (after.maps (map_number own)))
 
 -- in the order of their ids so much is told: each list but the last is kept, and of that one the ids are these
-pub record Runs (done : List Mention) (at : ℕ) (ids : List ℕ) (kept : BucketMap) : Type 0 where
+pub record MentionRuns (done : List Mention) (at : ℕ) (ids : List ℕ) (kept : BucketMap) : Type 0 where
   pub beside : (id : ℕ) → id ≢ at → IsKeptAt (mentions_tell done) kept id
   pub here : (by : ℕ) → has ids by ≡ mentions_tell done at by
   pub below : AllByRecursion (λ (mention : Mention). mention.id ≤ at) done
 
 -- no list of the index is kept
 pub record HasNoIndex (now : Image) : Type 0 where
-  pub ways_of_blocks : IsVoid (now.maps (number_of WaysOfBlocks))
-  pub relations_of_nodes : IsVoid (now.maps (number_of RelationsOfNodes))
-  pub relations_of_ways : IsVoid (now.maps (number_of RelationsOfWays))
+  pub ways_of_blocks : IsVoid (now.maps (map_number WaysOfBlocks))
+  pub relations_of_nodes : IsVoid (now.maps (map_number RelationsOfNodes))
+  pub relations_of_ways : IsVoid (now.maps (map_number RelationsOfWays))
 
 -- the store's index is what the objects of entries list, and all else is as before
 pub record Fills (entries : List Entry) (now after : Image) : Type 0 where
   pub root : after.root ≡ now.root
   pub texts : (n : ℕ) → after.texts n ≡ now.texts n
-  pub maps : (m : ℕ) → m ≢ number_of WaysOfBlocks → m ≢ number_of RelationsOfNodes → m ≢ number_of RelationsOfWays
+  pub maps : (m : ℕ) → m ≢ map_number WaysOfBlocks → m ≢ map_number RelationsOfNodes → m ≢ map_number RelationsOfWays
       → after.maps m ≡ now.maps m
-  pub ways_of_blocks : AreKept (map_told WaysOfBlocks entries) (after.maps (number_of WaysOfBlocks))
-  pub relations_of_nodes : AreKept (map_told RelationsOfNodes entries) (after.maps (number_of RelationsOfNodes))
-  pub relations_of_ways : AreKept (map_told RelationsOfWays entries) (after.maps (number_of RelationsOfWays))
+  pub ways_of_blocks : AreKept (map_told WaysOfBlocks entries) (after.maps (map_number WaysOfBlocks))
+  pub relations_of_nodes : AreKept (map_told RelationsOfNodes entries) (after.maps (map_number RelationsOfNodes))
+  pub relations_of_ways : AreKept (map_told RelationsOfWays entries) (after.maps (map_number RelationsOfWays))

@@ -29,7 +29,7 @@ use Rattle.store_maps.specs.Asked.{May, MayAnswer}
 use Rattle.store_maps.specs.Maps.{Maps}
 use Rattle.store_maps.specs.Named.{index_on}
 use Rattle.store_maps.specs.Turns.{ids_for}
-use Rattle.value_bytes.specs.StoreMap.{number_of}
+use Rattle.value_bytes.specs.StoreMap.{map_number}
 use Rattle.value_bytes.specs.declared.store_map.StoreMap.{StoreMap}
 use Rattle.value_bytes.specs.declared.store_map.StoreMap.TheVariants.{Ways, WaysOfBlocks, RelationsOfNodes, RelationsOfWays}
 use Rattle.back_index.specs.Calls.{page_in}
@@ -47,13 +47,13 @@ listed_for own key object = ids_for (lister_in own) (ids_in own) key.kind object
 -- of one map the lists are turned from the one form of an object to the other
 abbrev pub TurnsMap : StoreMap → KeyOf → Option Object → Option Object → Image → Image → Type 0
 TurnsMap own key old new now after =
-    Turns key.id (listed_for own key old) (listed_for own key new) (now.maps (number_of own)) (after.maps (number_of own))
+    Turns key.id (listed_for own key old) (listed_for own key new) (now.maps (map_number own)) (after.maps (map_number own))
 
 -- the store's index is turned from the one form of an object to the other, and all else is as before
 pub record Relists (key : KeyOf) (old new : Option Object) (now after : Image) : Type 0 where
   pub root : after.root ≡ now.root
   pub texts : (n : ℕ) → after.texts n ≡ now.texts n
-  pub maps : (m : ℕ) → m ≢ number_of WaysOfBlocks → m ≢ number_of RelationsOfNodes → m ≢ number_of RelationsOfWays
+  pub maps : (m : ℕ) → m ≢ map_number WaysOfBlocks → m ≢ map_number RelationsOfNodes → m ≢ map_number RelationsOfWays
       → after.maps m ≡ now.maps m
   pub ways_of_blocks : TurnsMap WaysOfBlocks key old new now after
   pub relations_of_nodes : TurnsMap RelationsOfNodes key old new now after
@@ -69,13 +69,13 @@ all_visits key old new = visits_for WaysOfBlocks key old new
 
 -- the store's index is that of these maps
 pub record HoldsIndex (image : Image) (maps : Maps) : Type 0 where
-  pub ways_of_blocks : HoldsMap ids_bytes AreListed (image.maps (number_of WaysOfBlocks)) maps.ways_of_blocks
-  pub relations_of_nodes : HoldsMap ids_bytes AreListed (image.maps (number_of RelationsOfNodes)) maps.relations_of_nodes
-  pub relations_of_ways : HoldsMap ids_bytes AreListed (image.maps (number_of RelationsOfWays)) maps.relations_of_ways
+  pub ways_of_blocks : HoldsMap ids_bytes AreListed (image.maps (map_number WaysOfBlocks)) maps.ways_of_blocks
+  pub relations_of_nodes : HoldsMap ids_bytes AreListed (image.maps (map_number RelationsOfNodes)) maps.relations_of_nodes
+  pub relations_of_ways : HoldsMap ids_bytes AreListed (image.maps (map_number RelationsOfWays)) maps.relations_of_ways
 
 -- its ways are those of these maps
 abbrev pub HoldsWays : Image → Maps → Type 0
-HoldsWays image maps = HoldsMap object_bytes (IsStored kinds.Way) (image.maps (number_of Ways)) maps.ways
+HoldsWays image maps = HoldsMap object_bytes (IsStored kinds.Way) (image.maps (map_number Ways)) maps.ways
 
 -- a store within a transaction answers by this index
 pub record Knows {D : Type 0} {g : Ghosts D} (buckets : Buckets D g) (index : Index) : Type 0 where
@@ -94,11 +94,11 @@ HasNodes (Some bytes) nodes = IsAtFront (list_bytes number_bytes) (IsList IsNumb
 
 -- each of these ways is there and begins with its nodes
 abbrev pub AreThere : Image → List ℕ → Type 0
-AreThere now ways = AllByRecursion (λ way. (nodes : List ℕ) × HasNodes (finite.get (now.maps (number_of Ways)) way) nodes) ways
+AreThere now ways = AllByRecursion (λ way. (nodes : List ℕ) × HasNodes (finite.get (now.maps (map_number Ways)) way) nodes) ways
 
 -- the list of a node's block reads, and each way in it is there
 abbrev pub HasWays : Image → ℕ → Type 0
-HasWays now block = (ways : List ℕ) × ReadsIds (finite.get (now.maps (number_of WaysOfBlocks)) block) ways × AreThere now ways
+HasWays now block = (ways : List ℕ) × ReadsIds (finite.get (now.maps (map_number WaysOfBlocks)) block) ways × AreThere now ways
 
 -- there are none
 abbrev pub IsNodeless : Option (List ℕ) → Type 0
@@ -118,18 +118,18 @@ pub record HasUnread {D : Type 0} {g : Ghosts D} (buckets : Buckets D g) (now : 
   pub own : StoreMap
   pub id : ℕ
   pub is_index : IsIndexMap own
-  pub unread : IsUnread (finite.get (now.maps (number_of own)) id)
-  pub page_is : at ≡ page_in buckets (number_of own) id
+  pub unread : IsUnread (finite.get (now.maps (map_number own)) id)
+  pub page_is : at ≡ page_in buckets (map_number own) id
 
 -- a way that is said to list a node of a block is not there, or has no nodes
 pub record HasNodeless {D : Type 0} {g : Ghosts D} (buckets : Buckets D g) (now : Image) (at : ℕ) : Type 0 where
   pub block : ℕ
   pub ids : List ℕ
-  pub reads : ReadsIds (finite.get (now.maps (number_of WaysOfBlocks)) block) ids
+  pub reads : ReadsIds (finite.get (now.maps (map_number WaysOfBlocks)) block) ids
   pub way : ℕ
   pub said : has ids way ≡ true
-  pub none : ¬ ((nodes : List ℕ) × HasNodes (finite.get (now.maps (number_of Ways)) way) nodes)
-  pub page_is : at ≡ page_in buckets (number_of WaysOfBlocks) block
+  pub none : ¬ ((nodes : List ℕ) × HasNodes (finite.get (now.maps (map_number Ways)) way) nodes)
+  pub page_is : at ≡ page_in buckets (map_number WaysOfBlocks) block
 
 -- the ways that list a node may be asked for, by the index that the transaction has
 pub record MayWays {D : Type 0} {g : Ghosts D} (buckets : Buckets D g) (id : ℕ) (may : May) : Type 0 where

@@ -6,7 +6,7 @@ use Rattle.osm_base.specs.values.Ids.{has}
 use Rattle.bucket_store.specs.Image.{Image}
 use Rattle.page_journal.specs.declared.fault.StoreFault.{StoreFault}
 use Rattle.page_journal.specs.declared.fault.StoreFault.TheVariants.{BadStore, DiskFault, OutOfMemory}
-use Rattle.value_bytes.specs.StoreMap.{number_of}
+use Rattle.value_bytes.specs.StoreMap.{map_number}
 use Rattle.value_bytes.specs.declared.store_map.StoreMap.{StoreMap}
 use Rattle.back_index.specs.Relisting.{CanTurn, in_order}
 use Rattle.back_index.specs.declared.visit.Visit.{Visit}
@@ -35,7 +35,7 @@ visits own old new = visits_at own old new (in_order (old ++ new))
 
 -- the list can be turned, in a store that means this
 abbrev pub IsFine : Image → ℕ → Visit → Type 0
-IsFine now own visit = (ids : List ℕ) × CanTurn visit.was own (finite.get (now.maps (number_of visit.map)) visit.id) ids
+IsFine now own visit = (ids : List ℕ) × CanTurn visit.was own (finite.get (now.maps (map_number visit.map)) visit.id) ids
 
 -- the first of these that is not so comes with this page
 pub record StopsAt {X : Type 0} (Fine : X → Type 0) (page : X → ℕ) (things : List X) (at : ℕ) : Type 0 where

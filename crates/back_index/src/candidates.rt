@@ -9,7 +9,7 @@ ghost use Rattle.store_maps.specs.Asked.{MayEach, MayKey};
 ghost use Rattle.store_maps.specs.Maps.{Maps};
 ghost use Rattle.store_maps.specs.Named.{index_on, list_it};
 ghost use Rattle.value_bytes.specs.Forms.{NeedsFor};
-ghost use Rattle.value_bytes.specs.StoreMap.{number_of};
+ghost use Rattle.value_bytes.specs.StoreMap.{map_number};
 ghost use Rattle.value_bytes.specs.declared.store_map.StoreMap.TheVariants.{Ways};
 ghost use Rattle.back_index.specs.Calls.{AsksLists, FindsIds};
 ghost use Rattle.back_index.specs.Index.{AreThere, HasNodes, HasWays, HoldsIndex, HoldsWays, IsDamaged, IsNodeless, MayWays};
@@ -62,8 +62,8 @@ fn ways_with<D: Disk>(
     requires rising { AreRisingIds ways.now }
     ensures ids { IfOk result (FindsIds (λ now ids. (maps : Maps) → HoldsWays now maps → ids ≡ filter (list_it maps node) ways.now) buckets.old) }
     ensures there { OnOk result ((rest now : Image) → Has rest now buckets.old → AreThere now ways.now) }
-    ensures asks { AsksLists (λ may. MayEach may (number_of Ways) ways.now)
-        (λ now. StopsAt (λ way. (nodes : List ℕ) × HasNodes (finite.get (now.maps (number_of Ways)) way) nodes) (λ _. page) ways.now)
+    ensures asks { AsksLists (λ may. MayEach may (map_number Ways) ways.now)
+        (λ now. StopsAt (λ way. (nodes : List ℕ) × HasNodes (finite.get (now.maps (map_number Ways)) way) nodes) (λ _. page) ways.now)
         buckets.old buckets.new result }
 {
     let mut found = Vec::new(alloc);
@@ -99,9 +99,9 @@ fn lists_node<D: Disk>(
 ) -> Result<bool, StoreFault>
     requires ready { IsReady buckets.old }
     ensures lists { IfOk result (λ lists. (rest now : Image) → Has rest now buckets.old
-        → (nodes : List ℕ) × HasNodes (finite.get (now.maps (number_of Ways)) way) nodes × (lists ≡ has nodes node)) }
+        → (nodes : List ℕ) × HasNodes (finite.get (now.maps (map_number Ways)) way) nodes × (lists ≡ has nodes node)) }
     ensures asks { AsksLists (λ may. MayKey may Ways way)
-        (λ now at. (¬ ((nodes : List ℕ) × HasNodes (finite.get (now.maps (number_of Ways)) way) nodes)) × (at ≡ page))
+        (λ now at. (¬ ((nodes : List ℕ) × HasNodes (finite.get (now.maps (map_number Ways)) way) nodes)) × (at ≡ page))
         buckets.old buckets.new result }
 {
     if let Err(fault) = buckets.bring(StoreMap::Ways, way) {
@@ -115,9 +115,9 @@ fn lists_node<D: Disk>(
 
 /// The nodes of a way whose bucket is there.
 fn read_nodes<D: Disk>(alloc: Global, buckets: &Buckets<'_, D>, way: u64) -> Result<Ids, ValueFault>
-    requires there { IsThere buckets.now (number_of Ways) way }
-    ensures nodes { IfOk result (λ nodes. (rest now : Image) → Has rest now buckets.now → HasNodes (finite.get (now.maps (number_of Ways)) way) nodes) }
-    ensures refused { IfErr result (NeedsFor ((rest now : Image) → Has rest now buckets.now → IsNodeless (finite.get (now.maps (number_of Ways)) way))) }
+    requires there { IsThere buckets.now (map_number Ways) way }
+    ensures nodes { IfOk result (λ nodes. (rest now : Image) → Has rest now buckets.now → HasNodes (finite.get (now.maps (map_number Ways)) way) nodes) }
+    ensures refused { IfErr result (NeedsFor ((rest now : Image) → Has rest now buckets.now → IsNodeless (finite.get (now.maps (map_number Ways)) way))) }
 {
     match buckets.value(StoreMap::Ways, way) {
         Some(bytes) => ids_in_front(alloc, bytes),

@@ -5,11 +5,11 @@ ghost use Rattle.osm_base.specs.values.Ids.{AreRisingIds, has};
 ghost use Rattle.osm_base.specs.values.Key.{IsId};
 ghost use Rattle.bucket_store.specs.Image.{Has, Image, with_value};
 ghost use Rattle.bucket_store.specs.Transaction.{IsReady, has_refused};
-ghost use Rattle.value_bytes.specs.StoreMap.{number_of};
+ghost use Rattle.value_bytes.specs.StoreMap.{map_number};
 ghost use Rattle.store_maps.specs.Asked.{MayKey};
 ghost use Rattle.store_maps.specs.Filling.{MayListAll};
 ghost use Rattle.back_index.specs.Calls.{NoDamage, NoKey, TouchesLists};
-ghost use Rattle.back_index.specs.Filling.{AreIds, AreKept, ByIds, Fills, FillsMap, HasNoIndex, IsVoid, MayTold, Runs, id_of, mentions_tell};
+ghost use Rattle.back_index.specs.Filling.{AreIds, AreKept, ByIds, Fills, FillsMap, HasNoIndex, IsVoid, MayTold, MentionRuns, id_of, mentions_tell};
 ghost use Rattle.back_index.specs.Listed.{map_told};
 ghost use Rattle.back_index.specs.Relisting.{kept_list};
 ghost use Rattle.back_index.specs.Visits.{OnlyMap};
@@ -55,7 +55,7 @@ fn fill_map<D: Disk>(
 ) -> Result<(), StoreFault>
     requires ready { IsReady buckets.old }
     ensures fills { OnOk result (FillsMap map (map_told map entries.now) buckets.old buckets.new) }
-    ensures touches { TouchesLists (λ may. MayTold may (number_of map) (map_told map entries.now)) NoDamage buckets.old buckets.new result }
+    ensures touches { TouchesLists (λ may. MayTold may (map_number map) (map_told map entries.now)) NoDamage buckets.old buckets.new result }
 {
     match told(alloc, map, entries) {
         Ok(mentions) => keep_lists(alloc, buckets, map, mentions.as_slice()),
@@ -65,7 +65,7 @@ fn fill_map<D: Disk>(
 
 /// A list that is not put yet.
 #[derive(Drop)]
-struct Run {
+struct MentionRun {
     /// What is listed.
     id: u64,
     /// The ids of those that list it, as they were told.
@@ -83,12 +83,12 @@ fn keep_lists<D: Disk>(
     requires order { IsNonDecreasingBy id_of mentions.now }
     requires ids { ByIds (mentions_tell mentions.now) }
     ensures fills { OnOk result (FillsMap map (mentions_tell mentions.now) buckets.old buckets.new) }
-    ensures touches { TouchesLists (λ may. MayTold may (number_of map) (mentions_tell mentions.now)) NoDamage buckets.old buckets.new result }
+    ensures touches { TouchesLists (λ may. MayTold may (map_number map) (mentions_tell mentions.now)) NoDamage buckets.old buckets.new result }
 {
     if mentions.is_empty() {
         return Ok(());
     }
-    let mut run = Run {
+    let mut run = MentionRun {
         id: mentions[0].id,
         ids: Vec::new(alloc),
     };
@@ -97,7 +97,7 @@ fn keep_lists<D: Disk>(
             return Err(fault);
         }
     }
-    let Run { id, ids } = run;
+    let MentionRun { id, ids } = run;
     keep_run(alloc, buckets, map, id, ids)
 }
 
@@ -106,16 +106,16 @@ fn add_mention<D: Disk>(
     alloc: Global,
     buckets: &mut Buckets<'_, D>,
     map: StoreMap,
-    run: &mut Run,
+    run: &mut MentionRun,
     mention: Mention,
 ) -> Result<(), StoreFault>
     requires ready { IsReady buckets.old }
     requires order { run.old.id ≤ mention.id }
     requires ids { AreIds run.old.ids.items }
     requires own { IsId mention.own }
-    ensures runs { OnOk result ((rest now : Image) → Has rest now buckets.old → (after : Image) × Has rest after buckets.new × OnlyMap (number_of map) now after
-        × ((done : List MentionOf) → Runs done run.old.id run.old.ids.items (now.maps (number_of map))
-        → Runs (done ++ mention ∷ []) run.new.id run.new.ids.items (after.maps (number_of map)))) }
+    ensures runs { OnOk result ((rest now : Image) → Has rest now buckets.old → (after : Image) × Has rest after buckets.new × OnlyMap (map_number map) now after
+        × ((done : List MentionOf) → MentionRuns done run.old.id run.old.ids.items (now.maps (map_number map))
+        → MentionRuns (done ++ mention ∷ []) run.new.id run.new.ids.items (after.maps (map_number map)))) }
     ensures at { OnOk result (run.new.id ≡ mention.id) }
     ensures ids { OnOk result (AreIds run.new.ids.items) }
     ensures touches { TouchesLists (λ may. MayKey may map run.old.id) NoDamage buckets.old buckets.new result }
@@ -132,7 +132,11 @@ fn add_mention<D: Disk>(
 }
 
 /// One more id of a list that is not put yet.
-fn push<D: Disk>(buckets: &mut Buckets<'_, D>, run: &mut Run, own: u64) -> Result<(), StoreFault>
+fn push<D: Disk>(
+    buckets: &mut Buckets<'_, D>,
+    run: &mut MentionRun,
+    own: u64,
+) -> Result<(), StoreFault>
     requires going { has_refused buckets.old ≡ false }
     ensures at { run.new.id ≡ run.old.id }
     ensures ids { OnOk result (run.new.ids.items ≡ run.old.ids.items ++ own ∷ []) }
@@ -156,7 +160,7 @@ fn keep_run<D: Disk>(
     requires ready { IsReady buckets.old }
     requires ids { AreIds ids.items }
     ensures keeps { OnOk result ((rest now : Image) → Has rest now buckets.old → (list : List ℕ) × AreRisingIds list × ((own : ℕ) → has list own ≡ has ids.items own)
-        × Has rest (with_value (number_of map) id (kept_list list) now) buckets.new) }
+        × Has rest (with_value (map_number map) id (kept_list list) now) buckets.new) }
     ensures touches { TouchesLists (λ may. MayKey may map id) NoDamage buckets.old buckets.new result }
 {
     let ids = RisingIds::from_vec(ids);

@@ -6,7 +6,7 @@ ghost use Rattle.bucket_store.specs.Transaction.{IsReady, IsThere};
 ghost use Rattle.bucket_store.specs.Typed.{refusal_of};
 ghost use Rattle.store_maps.specs.Asked.{MayKey};
 ghost use Rattle.value_bytes.specs.Forms.{NeedsFor};
-ghost use Rattle.value_bytes.specs.StoreMap.{number_of};
+ghost use Rattle.value_bytes.specs.StoreMap.{map_number};
 ghost use Rattle.back_index.specs.Calls.{AsksLists, FindsIds, Marks, NoDamage, TouchesLists, page_in};
 ghost use Rattle.back_index.specs.Relisting.{IsUnread, ReadsIds, kept_list};
 
@@ -26,9 +26,9 @@ pub fn listers<D: Disk>(
     id: u64,
 ) -> Result<Ids, StoreFault>
     requires ready { IsReady buckets.old }
-    ensures ids { IfOk result (FindsIds (λ now ids. ReadsIds (finite.get (now.maps (number_of map)) id) ids) buckets.old) }
+    ensures ids { IfOk result (FindsIds (λ now ids. ReadsIds (finite.get (now.maps (map_number map)) id) ids) buckets.old) }
     ensures asks { AsksLists (λ may. MayKey may map id)
-        (λ now at. IsUnread (finite.get (now.maps (number_of map)) id) × (at ≡ page_in buckets.old (number_of map) id))
+        (λ now at. IsUnread (finite.get (now.maps (map_number map)) id) × (at ≡ page_in buckets.old (map_number map) id))
         buckets.old buckets.new result }
 {
     if let Err(fault) = buckets.bring(map, id) {
@@ -50,9 +50,9 @@ fn read_list<D: Disk>(
     map: StoreMap,
     id: u64,
 ) -> Result<Ids, ValueFault>
-    requires there { IsThere buckets.now (number_of map) id }
-    ensures ids { IfOk result (FindsIds (λ now ids. ReadsIds (finite.get (now.maps (number_of map)) id) ids) buckets.now) }
-    ensures refused { IfErr result (NeedsFor ((rest now : Image) → Has rest now buckets.now → IsUnread (finite.get (now.maps (number_of map)) id))) }
+    requires there { IsThere buckets.now (map_number map) id }
+    ensures ids { IfOk result (FindsIds (λ now ids. ReadsIds (finite.get (now.maps (map_number map)) id) ids) buckets.now) }
+    ensures refused { IfErr result (NeedsFor ((rest now : Image) → Has rest now buckets.now → IsUnread (finite.get (now.maps (map_number map)) id))) }
 {
     match buckets.value(map, id) {
         Some(bytes) => read_ids(alloc, bytes),
@@ -70,7 +70,7 @@ pub fn keep_list<D: Disk>(
 ) -> Result<(), StoreFault>
     requires ready { IsReady buckets.old }
     ensures keeps { OnOk result ((rest now : Image) → Has rest now buckets.old
-        → Has rest (with_value (number_of map) id (kept_list ids.now) now) buckets.new) }
+        → Has rest (with_value (map_number map) id (kept_list ids.now) now) buckets.new) }
     ensures touches { TouchesLists (λ may. MayKey may map id) NoDamage buckets.old buckets.new result }
 {
     if ids.is_empty() {

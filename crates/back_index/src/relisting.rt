@@ -5,7 +5,7 @@ ghost use Rattle.osm_base.specs.values.Ids.{IsRising};
 ghost use Rattle.osm_base.specs.values.Key.{IsId};
 ghost use Rattle.bucket_store.specs.Image.{Has, Image};
 ghost use Rattle.bucket_store.specs.Transaction.{IsReady};
-ghost use Rattle.value_bytes.specs.StoreMap.{number_of};
+ghost use Rattle.value_bytes.specs.StoreMap.{map_number};
 ghost use Rattle.store_maps.specs.Asked.{MayEach, MayKey, MayList};
 ghost use Rattle.store_maps.specs.Step.{with_id, without_id};
 ghost use Rattle.store_maps.specs.Turns.{listed_by};
@@ -67,10 +67,10 @@ fn relist_map<D: Disk>(
     requires ready { IsReady buckets.old }
     requires own { IsId own }
     ensures turns { OnOk result ((rest now : Image) → Has rest now buckets.old → (after : Image) × Has rest after buckets.new
-        × OnlyMap (number_of map) now after
-        × Turns own (listed_by (ids_in map) old.now) (listed_by (ids_in map) new.now) (now.maps (number_of map)) (after.maps (number_of map))) }
+        × OnlyMap (map_number map) now after
+        × Turns own (listed_by (ids_in map) old.now) (listed_by (ids_in map) new.now) (now.maps (map_number map)) (after.maps (map_number map))) }
     ensures touches { TouchesLists
-        (λ may. MayEach may (number_of map) (listed_by (ids_in map) old.now) × MayEach may (number_of map) (listed_by (ids_in map) new.now))
+        (λ may. MayEach may (map_number map) (listed_by (ids_in map) old.now) × MayEach may (map_number map) (listed_by (ids_in map) new.now))
         (λ now. StopsAt (IsFine now own) (page_at buckets.old) (visits map (listed_by (ids_in map) old.now) (listed_by (ids_in map) new.now)))
         buckets.old buckets.new result }
 {
@@ -97,8 +97,8 @@ fn turn_all<D: Disk>(
     requires own { IsId own }
     requires rise { IsRising ids.now }
     ensures turns { OnOk result ((rest now : Image) → Has rest now buckets.old → (after : Image) × Has rest after buckets.new
-        × OnlyMap (number_of map) now after × TurnsAt own old.now new.now ids.now (now.maps (number_of map)) (after.maps (number_of map))) }
-    ensures touches { TouchesLists (λ may. MayEach may (number_of map) ids.now)
+        × OnlyMap (map_number map) now after × TurnsAt own old.now new.now ids.now (now.maps (map_number map)) (after.maps (map_number map))) }
+    ensures touches { TouchesLists (λ may. MayEach may (map_number map) ids.now)
         (λ now. StopsAt (IsFine now own) (page_at buckets.old) (visits_at map old.now new.now ids.now)) buckets.old buckets.new result }
 {
     for &id in ids {
@@ -125,8 +125,8 @@ fn turn_list<D: Disk>(
     requires ready { IsReady buckets.old }
     requires own { IsId own }
     ensures turns { OnOk result ((rest now : Image) → Has rest now buckets.old → (after : Image) × Has rest after buckets.new
-        × (ids : List ℕ) × CanTurn visit.was own (finite.get (now.maps (number_of visit.map)) visit.id) ids
-        × Sets (number_of visit.map) visit.id (kept_list (turned visit.was visit.is own ids)) now after) }
+        × (ids : List ℕ) × CanTurn visit.was own (finite.get (now.maps (map_number visit.map)) visit.id) ids
+        × Sets (map_number visit.map) visit.id (kept_list (turned visit.was visit.is own ids)) now after) }
     ensures touches { TouchesLists (λ may. MayKey may visit.map visit.id)
         (λ now at. (¬ IsFine now own visit) × (at ≡ page_at buckets.old visit)) buckets.old buckets.new result }
 {

@@ -41,7 +41,7 @@ impl<'d, D: Disk> Buckets<'d, D> {
     ghost use Rattle.bucket_store.specs.Image.{Has, HoldsImage, Image, OnlyLooks, RestsAt};
     ghost use Rattle.bucket_store.specs.Opening.{Fits, FitsPages, IsOver};
     ghost use Rattle.bucket_store.specs.Transaction.{IsOpenStore, bucket_at, cached_of, chains_of, has_refused};
-    ghost use Rattle.value_bytes.specs.StoreMap.{number_of};
+    ghost use Rattle.value_bytes.specs.StoreMap.{map_number};
 
     /// The buckets over these chains, of which none was read yet. Reads nothing.
     pub fn over(alloc: Global, chains: Chains<'d, D>) -> Self
@@ -152,7 +152,7 @@ impl<'d, D: Disk> Buckets<'d, D> {
     /// The first page that the bucket of a key has in the store, or 0 where it is empty there. Reads nothing.
     pub fn page_of(&self, map: StoreMap, key: u64) -> u64
         requires some { 1 ≤ bucket_count (chains_of self.now) }
-        ensures { result ≡ first_of (chains_of self.now) (bucket_at self.now (number_of map) key) }
+        ensures { result ≡ first_of (chains_of self.now) (bucket_at self.now (map_number map) key) }
     {
         self.chains.first_page(self.chain_of(map, key))
     }
@@ -160,7 +160,7 @@ impl<'d, D: Disk> Buckets<'d, D> {
     // The chain of the bucket of a key.
     fn chain_of(&self, map: StoreMap, key: u64) -> u32
         requires some { 1 ≤ bucket_count (chains_of self.now) }
-        ensures chain { result ≡ bucket_at self.now (number_of map) key }
+        ensures chain { result ≡ bucket_at self.now (map_number map) key }
         ensures string { IsString (bucket_count (chains_of self.now)) result }
         ensures is { IsBucketChain (bucket_count (chains_of self.now)) result }
     {

@@ -3,7 +3,7 @@ ghost use Rattle.std.specs.Prelude.{◌≡◌, ◌*◌, ◌+◌, ◌-◌, ◌%�
 ghost use Rattle.chain_store.specs.Chains.{IsOpen, is_refused};
 ghost use Rattle.chain_store.specs.Directories.{IsString};
 ghost use Rattle.bucket_store.specs.Buckets.{HasKeysOf, IsBucketChain, LeavesRead, ReadsBucket, bucket_count, bucket_in, chain_at};
-ghost use Rattle.value_bytes.specs.StoreMap.{number_of};
+ghost use Rattle.value_bytes.specs.StoreMap.{map_number};
 
 use bucket_records::Bucket;
 use chain_store::Chains;
@@ -43,7 +43,7 @@ pub fn read_bucket<D: Disk>(
 pub fn chain_of(map: StoreMap, key: u64, buckets: u64) -> u32
     requires some { 1 ≤ buckets }
     requires few { buckets ≤ 65536 }
-    ensures chain { result ≡ chain_at buckets (number_of map) key }
+    ensures chain { result ≡ chain_at buckets (map_number map) key }
     ensures string { IsString buckets result }
     ensures is { IsBucketChain buckets result }
 {

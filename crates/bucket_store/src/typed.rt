@@ -5,7 +5,7 @@ ghost use Rattle.bucket_store.specs.Buckets.{bucket_count};
 ghost use Rattle.bucket_store.specs.Image.{OnlyLooks};
 ghost use Rattle.bucket_store.specs.Transaction.{cached_of, chains_of, has_refused};
 ghost use Rattle.bucket_store.specs.Typed.{bucket_at, refusal_of};
-ghost use Rattle.value_bytes.specs.StoreMap.{number_of};
+ghost use Rattle.value_bytes.specs.StoreMap.{map_number};
 
 use crate::Buckets;
 use outside::Disk;
@@ -20,7 +20,7 @@ pub fn refuse_value<D: Disk>(
     fault: ValueFault,
 ) -> StoreFault
     requires some { 1 ≤ bucket_count (chains_of buckets.old) }
-    ensures refusal { result ≡ refusal_of fault (first_of (chains_of buckets.old) (bucket_at buckets.old (number_of map) key)) }
+    ensures refusal { result ≡ refusal_of fault (first_of (chains_of buckets.old) (bucket_at buckets.old (map_number map) key)) }
     ensures refused { has_refused buckets.new ≡ true }
     ensures chains { chains_of buckets.new ≡ chains_of buckets.old }
     ensures cached { cached_of buckets.new ≡ cached_of buckets.old }

@@ -28,7 +28,7 @@ use Rattle.delta_feed.specs.Hexes.{hex_in, is_digit, is_hex}
 use Rattle.delta_feed.specs.Blocks.{more_comes}
 use Rattle.delta_feed.specs.Line.{behind, del_by, line_in, line_of, opened_by, set_by, spelled_by, verb_in}
 use Rattle.delta_feed.specs.Place.{may_stand}
-use Rattle.delta_feed.specs.Text.{del_line, delta_line, full_line, joined, kind_letter, more_line, set_line, style_line}
+use Rattle.delta_feed.specs.Text.{del_line, delta_line, full_line, joined_words, kind_letter, more_line, set_line, style_line}
 use Rattle.delta_feed.specs.Written.{IsTold}
 use Rattle.delta_feed.specs.Words.{is_empty, is_numeral, is_space, kind_in, last_word, next_word, number_in, words_of}
 
@@ -39,11 +39,11 @@ HaveNoSpace [] = Unit {0}
 HaveNoSpace (word ∷ words) = HasNoSpace word × HaveNoSpace words
 
 -- words that have no space are the words of their line
-pub words_are : (word : List ℕ) (words : List (List ℕ)) → HasNoSpace word → HaveNoSpace words → words_of (joined (word ∷ words)) ≡ word ∷ words
+pub words_are : (word : List ℕ) (words : List (List ℕ)) → HasNoSpace word → HaveNoSpace words → words_of (joined_words (word ∷ words)) ≡ word ∷ words
 unfolding words_of
 words_are word [] clean others = slice_split_none is_space word clean
 words_are word (next ∷ words) clean others =
-    slice_split_at is_space word SPACE (joined (next ∷ words)) clean refl ∙ ap (λ behind. word ∷ behind) (words_are next words others.0 others.1)
+    slice_split_at is_space word SPACE (joined_words (next ∷ words)) clean refl ∙ ap (λ behind. word ∷ behind) (words_are next words others.0 others.1)
 
 digit_no_space : (byte : ℕ) → is_ascii_digit byte ≡ true → is_space byte ≡ false
 digit_no_space byte passes = grind (arith, nat_tests)

@@ -17,8 +17,8 @@ use Rattle.delta_feed.specs.declared.words.TheConstants.{SPACE}
 -- ---- one line, without its newline
 
 -- words, separated by one space
-abbrev pub joined : List (List ℕ) → List ℕ
-joined words = join_with_byte SPACE words
+abbrev pub joined_words : List (List ℕ) → List ℕ
+joined_words words = join_with_byte SPACE words
 
 -- the letter of a kind
 abbrev pub kind_letter : Kind → List ℕ
@@ -32,25 +32,25 @@ spot_words spot = decimal spot.table ∷ kind_letter spot.key.kind ∷ decimal s
 
 -- a line that takes the row of a spot away
 unfoldable pub del_line : SpotOf → List ℕ
-del_line spot = joined (codes "del" ∷ spot_words spot)
+del_line spot = joined_words (codes "del" ∷ spot_words spot)
 
 -- a line that gives a spot a row of these bytes
 unfoldable pub set_line : SpotOf → List ℕ → List ℕ
-set_line spot bytes = joined (codes "set" ∷ decimal spot.table ∷ kind_letter spot.key.kind ∷ decimal spot.key.id ∷ encode_lower bytes ∷ [])
+set_line spot bytes = joined_words (codes "set" ∷ decimal spot.table ∷ kind_letter spot.key.kind ∷ decimal spot.key.id ∷ encode_lower bytes ∷ [])
 
 -- the lines of the bytes of a style, and of bytes that go on
 unfoldable pub style_line : List ℕ → List ℕ
-style_line bytes = joined (codes "style" ∷ encode_lower bytes ∷ [])
+style_line bytes = joined_words (codes "style" ∷ encode_lower bytes ∷ [])
 
 unfoldable pub more_line : List ℕ → List ℕ
-more_line bytes = joined (codes "more" ∷ encode_lower bytes ∷ [])
+more_line bytes = joined_words (codes "more" ∷ encode_lower bytes ∷ [])
 
 -- the lines that begin a block
 unfoldable pub full_line : (version : ℕ) → List ℕ
-full_line version = joined (codes "full" ∷ decimal version ∷ [])
+full_line version = joined_words (codes "full" ∷ decimal version ∷ [])
 
 unfoldable pub delta_line : (version : ℕ) → List ℕ
-delta_line version = joined (codes "delta" ∷ decimal version ∷ [])
+delta_line version = joined_words (codes "delta" ∷ decimal version ∷ [])
 
 -- ---- bytes in lines, each but the last with the most digits
 
@@ -111,11 +111,11 @@ delta_lines delta = delta_line delta.version ∷ (entry_lines (changes_at delta.
 abbrev pub ended_line : List ℕ → List ℕ
 ended_line line = line ++ codes "\n"
 
-abbrev pub text_of : List (List ℕ) → List ℕ
-text_of lines = flat_map ended_line lines
+abbrev pub lines_text : List (List ℕ) → List ℕ
+lines_text lines = flat_map ended_line lines
 
 abbrev pub full_text : (version : ℕ) → List ℕ → TableMap → List ℕ
-full_text version style_bytes tables = text_of (full_lines version style_bytes tables)
+full_text version style_bytes tables = lines_text (full_lines version style_bytes tables)
 
 abbrev pub delta_text : Delta → List ℕ
-delta_text delta = text_of (delta_lines delta)
+delta_text delta = lines_text (delta_lines delta)

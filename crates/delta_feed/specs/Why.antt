@@ -6,13 +6,13 @@ use Rattle.delta_feed.specs.declared.fault.LineRefused.{LineRefused}
 use Rattle.delta_feed.specs.declared.fault.LineRefused.TheVariants.{Bad, OutOfMemory}
 
 -- the number of a cause
-abbrev pub number_of : FeedWhy → ℕ
-number_of whys.Form = 1
-number_of whys.Number = 2
-number_of whys.Hex = 3
-number_of whys.Row = 4
-number_of whys.Order = 5
-number_of whys.End = 6
+abbrev pub cause_number : FeedWhy → ℕ
+cause_number whys.Form = 1
+cause_number whys.Number = 2
+cause_number whys.Hex = 3
+cause_number whys.Row = 4
+cause_number whys.Order = 5
+cause_number whys.End = 6
 
 -- one reading after the other: the first cause stands
 infixl 10 ◌>>=◌

@@ -1,6 +1,6 @@
 //! Why a line of a feed is not read.
 ghost use Rattle.std.specs.Prelude.{◌≡◌};
-ghost use Rattle.delta_feed.specs.Why.{number_of};
+ghost use Rattle.delta_feed.specs.Why.{cause_number};
 ghost use Rattle.delta_feed.specs.declared.fault.LineRefused.TheVariants.{Bad, OutOfMemory as NoMemory};
 
 use osm_base::LimitKind;
@@ -27,7 +27,7 @@ pub enum FeedWhy {
 impl FeedWhy {
     /// The number of the cause.
     pub fn number(&self) -> u8
-        ensures number { result ≡ number_of self.now }
+        ensures number { result ≡ cause_number self.now }
     {
         match self {
             FeedWhy::Form => 1,

@@ -103,7 +103,7 @@ fn take_more_style(
     ensures turn { Gives result (style_more version bytes line goes_on) }
 {
     match line {
-        FeedLine::More(more) => match joined(bytes, more.as_slice()) {
+        FeedLine::More(more) => match joined_bytes(bytes, more.as_slice()) {
             Ok(all) => style_so_far(alloc, version, all, goes_on),
             Err(fault) => Err(fault),
         },
@@ -112,7 +112,7 @@ fn take_more_style(
 }
 
 /// Bytes and then more of them.
-fn joined(bytes: Bytes, more: &[u8]) -> Result<Bytes, LineRefused>
+fn joined_bytes(bytes: Bytes, more: &[u8]) -> Result<Bytes, LineRefused>
     ensures bytes { IfOk result (λ all. all ≡ bytes ++ more.now) }
     ensures memory { IfErr result (λ fault. fault ≡ LineRefused.OutOfMemory) }
 {
@@ -180,7 +180,7 @@ fn take_more_row(
     ensures turn { Shows result (IsRowMore (tables_of (style_for rows.head (option_copied base.entry))) rows spot bytes line goes_on) }
 {
     match line {
-        FeedLine::More(more) => match joined(bytes, more.as_slice()) {
+        FeedLine::More(more) => match joined_bytes(bytes, more.as_slice()) {
             Ok(all) => set_row_on(alloc, base, rows, spot, all, goes_on),
             Err(fault) => Err(fault),
         },

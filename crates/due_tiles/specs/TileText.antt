@@ -20,19 +20,19 @@ is_above zoom x y run =
 abbrev pub column_of : ℕ → ℕ → ℕ
 column_of zoom number = number / 2 ^ zoom
 
-abbrev pub row_of : ℕ → ℕ → ℕ
-row_of zoom number = number % 2 ^ zoom
+abbrev pub tile_row : ℕ → ℕ → ℕ
+tile_row zoom number = number % 2 ^ zoom
 
 -- the tile of a number is above one of these runs, or one of them
 abbrev pub is_listed : List Run → ℕ → ℕ → Bool
-is_listed runs zoom number = list_any (is_above zoom (column_of zoom number) (row_of zoom number)) runs
+is_listed runs zoom number = list_any (is_above zoom (column_of zoom number) (tile_row zoom number)) runs
 
 -- the line of a tile
 unfoldable pub tile_line : ℕ → ℕ → ℕ → List ℕ
 tile_line zoom x y = decimal zoom ++ codes "/" ++ decimal x ++ codes "/" ++ decimal y ++ codes "\n"
 
 abbrev pub line_of : ℕ → ℕ → List ℕ
-line_of zoom number = tile_line zoom (column_of zoom number) (row_of zoom number)
+line_of zoom number = tile_line zoom (column_of zoom number) (tile_row zoom number)
 
 -- the lines of those tiles of a zoom that are listed
 unfoldable pub zoom_text : List Run → ℕ → List ℕ

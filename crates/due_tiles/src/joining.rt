@@ -28,7 +28,7 @@ pub fn union(alloc: Global, one: &mut TileRuns, other: &TileRuns) -> Result<(), 
     let rest = all.behind(from);
     let count = count_reached(rest, last);
     let between = rest.front(count);
-    let both = joined(alloc, between, others)?;
+    let both = joined_parts(alloc, between, others)?;
     one.replace(from, from + count, both)?;
     Ok(())
 }
@@ -52,7 +52,7 @@ fn count_reached(part: Part<'_>, run: Run) -> usize
 }
 
 /// The tiles of two sets.
-fn joined(alloc: Global, left: Part<'_>, right: Part<'_>) -> Result<TileRuns, OutOfMemory>
+fn joined_parts(alloc: Global, left: Part<'_>, right: Part<'_>) -> Result<TileRuns, OutOfMemory>
     ensures tiles { IfOk result (λ set. (zoom x y : ℕ)
         → has set zoom x y ≡ (has left.entry.runs.now zoom x y || has right.entry.runs.now zoom x y)) }
     ensures set { IfOk result IsTileSet }

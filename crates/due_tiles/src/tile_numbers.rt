@@ -3,7 +3,7 @@ ghost use Rattle.std.specs.Prelude.{◌≡◌, ◌≤◌, ◌<◌, ◌+◌, ◌*
 ghost use Rattle.std.specs.List.{AllByRecursion, list_any};
 ghost use Rattle.osm_base.specs.values.Ids.{has, IsRising};
 ghost use Rattle.tile_cover.specs.Runs.{IsRun};
-ghost use Rattle.due_tiles.specs.TileText.{column_of, is_above, is_listed, row_of};
+ghost use Rattle.due_tiles.specs.TileText.{column_of, is_above, is_listed, tile_row};
 
 use crate::zoom::{Zoom, side_of};
 use object_fold::RisingIds;
@@ -28,7 +28,7 @@ pub(crate) fn listed(alloc: Global, runs: &[Run], zoom: Zoom) -> Result<RisingId
 fn add_run(numbers: &mut Vec<u64>, zoom: Zoom, run: Run) -> Result<(), OutOfMemory>
     requires run { IsRun run }
     ensures added { OnOk result ((number : ℕ) → has numbers.new.items number
-        ≡ (is_above zoom.level (column_of zoom.level number) (row_of zoom.level number) run || has numbers.old.items number)) }
+        ≡ (is_above zoom.level (column_of zoom.level number) (tile_row zoom.level number) run || has numbers.old.items number)) }
 {
     if zoom.level > run.zoom {
         return Ok(());

@@ -42,11 +42,11 @@ pub fn write_tiles<S: Sink>(
 pub fn tiles_text(alloc: Global, runs: &TileRuns, least: u32) -> Result<Vec<u8>, OutOfMemory>
     ensures text { IfOk result (λ text. text.items ≡ tile_text runs.now least) }
 {
-    Ok(text_of(alloc, runs.as_slice(), least)?)
+    Ok(tile_lines(alloc, runs.as_slice(), least)?)
 }
 
 /// The text of these runs.
-fn text_of(alloc: Global, runs: &[Run], least: u32) -> Result<Vec<u8>, OutOfMemory>
+fn tile_lines(alloc: Global, runs: &[Run], least: u32) -> Result<Vec<u8>, OutOfMemory>
     requires runs { AllByRecursion IsRun runs.now }
     ensures text { IfOk result (λ text. text.items ≡ tile_text runs.now least) }
 {

@@ -15,7 +15,7 @@ pub fn bytes_of(alloc: Global, field: &str) -> Result<Option<Vec<u8>>, AllocErro
 }
 
 /// The text that a field stands for. `None`: it has an escape that is none, or bytes that are no text.
-pub fn text_of(alloc: Global, field: &str) -> Result<Option<String>, AllocError> {
+pub fn unescaped(alloc: Global, field: &str) -> Result<Option<String>, AllocError> {
     let Some(bytes) = bytes_of(alloc, field)? else {
         return Ok(None);
     };
@@ -29,7 +29,7 @@ pub fn text_of(alloc: Global, field: &str) -> Result<Option<String>, AllocError>
 pub fn words_of(alloc: Global, text: &str) -> Result<Option<Vec<String>>, AllocError> {
     let mut words = Vec::new(alloc);
     for field in text.split_ascii_whitespace() {
-        match text_of(alloc, field)? {
+        match unescaped(alloc, field)? {
             None => return Ok(None),
             Some(word) => words.push(word)?,
         }

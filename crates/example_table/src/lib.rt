@@ -12,7 +12,7 @@ mod row;
 mod running;
 mod telling;
 
-pub use escape::{bytes_of, text_of, words_of};
-pub use row::{number_of, row_of, sides_of, signed_of};
+pub use escape::{bytes_of, unescaped, words_of};
+pub use row::{named_row, number_in, sides_of, signed_of};
 pub use running::{Examples, run_examples};
 pub use telling::{is_told, refuse_row};

@@ -4,7 +4,7 @@
 const ARROW: &str = "=>";
 
 /// The word with which a row begins, and the text behind it. `None`: the line says nothing.
-pub fn row_of(line: &str) -> Option<(&str, &str)> {
+pub fn named_row(line: &str) -> Option<(&str, &str)> {
     let line = line.trim();
     if line.is_empty() || line.starts_with('#') {
         return None;
@@ -22,7 +22,7 @@ pub fn sides_of(text: &str) -> Option<(&str, &str)> {
 }
 
 /// The number that a field writes.
-pub fn number_of(field: &str) -> Option<u64> {
+pub fn number_in(field: &str) -> Option<u64> {
     field.parse::<u64>().ok()
 }
 

@@ -1,5 +1,5 @@
 //! The loop of a program that runs examples.
-use crate::{is_told, refuse_row, row_of, sides_of};
+use crate::{is_told, named_row, refuse_row, sides_of};
 use std::alloc::Global;
 use std::fs::{self, Files};
 use std::io;
@@ -44,10 +44,10 @@ fn passes_all<E: Examples, R: Print + Eprint + AllocGlobal>(
 
 /// Runs the example of a line, if it has one, and tells of it. True: the next one may run.
 fn passes<E: Examples, R: Print + Eprint + AllocGlobal>(rt: &R, line: &str) -> io::Result<bool> {
-    let Some((kind, text)) = row_of(line) else {
+    let Some((kind, text)) = named_row(line) else {
         return Ok(true);
     };
-    let Some((name, text)) = row_of(text) else {
+    let Some((name, text)) = named_row(text) else {
         refuse_row(rt, line)?;
         return Ok(false);
     };

@@ -2,7 +2,7 @@
 use crate::chance::next;
 use crate::notation::on_earth;
 use crate::tables::table_of;
-use example_table::{number_of, row_of};
+use example_table::{named_row, number_in};
 use osm_base::{Geometry, LineList, OutOfMemory, Places, Polygons};
 use std::alloc::Global;
 use style_read::Mode;
@@ -99,10 +99,10 @@ fn agrees(alloc: Global, table: &Bounds, state: &mut u64, mode: Mode) -> Result<
 
 /// So many geometries by chance from a seed: `SEED COUNT`.
 pub fn agree(alloc: Global, given: &str) -> Result<Option<String>, OutOfMemory> {
-    let Some((seed, count)) = row_of(given) else {
+    let Some((seed, count)) = named_row(given) else {
         return Ok(None);
     };
-    let (Some(seed), Some(count)) = (number_of(seed), number_of(count)) else {
+    let (Some(seed), Some(count)) = (number_in(seed), number_in(count)) else {
         return Ok(None);
     };
     let Some(table) = table_of(alloc, TABLE)? else {

@@ -2,7 +2,7 @@
 use crate::kernels::{asked, boxed, compared};
 use crate::nesting::nested;
 use crate::nodes::along;
-use crate::pieces::{closed, extended, joined, taken, tested};
+use crate::pieces::{closed, extended, joined_lines, taken, tested};
 use crate::rows::{copied, written};
 use crate::{agreement, covers, due, lanes, tables};
 use example_table::Examples;
@@ -20,7 +20,7 @@ impl Examples for OfGeometry {
             "pieces" => tested(alloc, given),
             "take" => taken(alloc, given),
             "extend" => extended(alloc, given),
-            "join" => joined(alloc, given),
+            "join" => joined_lines(alloc, given),
             "rings" => closed(alloc, given),
             "points" | "line" => along(alloc, kind, given),
             "box" => boxed(alloc, given),
@@ -46,7 +46,7 @@ fn answer_of_tiles(alloc: Global, kind: &str, given: &str) -> Result<Option<Stri
         "agree" => agreement::agree(alloc, given),
         "due" => due::spelled(alloc, given),
         "bytes" => due::read(alloc, given),
-        "union" => due::joined(alloc, given),
+        "union" => due::joined_runs(alloc, given),
         "text" => due::listed(alloc, given),
         _ => Ok(None),
     }

@@ -1,7 +1,7 @@
 //! The tiles that geometries meet.
 use crate::shapes::geometry_of;
 use crate::tables::table_of;
-use example_table::{number_of, row_of};
+use example_table::{named_row, number_in};
 use osm_base::{Geometry, OutOfMemory};
 use std::alloc::{AllocError, Global};
 use style_read::Mode;
@@ -17,10 +17,10 @@ struct Asked {
 
 /// The row `TABLE MODE GEOMETRY`.
 fn asked_of(alloc: Global, given: &str) -> Result<Option<Asked>, OutOfMemory> {
-    let Some((word, rest)) = row_of(given) else {
+    let Some((word, rest)) = named_row(given) else {
         return Ok(None);
     };
-    let Some((mode, text)) = row_of(rest) else {
+    let Some((mode, text)) = named_row(rest) else {
         return Ok(None);
     };
     let Some(mode) = mode_of(mode) else {
@@ -107,13 +107,13 @@ fn text_of_count(alloc: Global, runs: &[Run]) -> Result<String, AllocError> {
 
 /// Whether a geometry meets the tile of the row `X Y TABLE MODE GEOMETRY`.
 pub fn met(alloc: Global, given: &str) -> Result<Option<String>, OutOfMemory> {
-    let Some((x, rest)) = row_of(given) else {
+    let Some((x, rest)) = named_row(given) else {
         return Ok(None);
     };
-    let Some((y, rest)) = row_of(rest) else {
+    let Some((y, rest)) = named_row(rest) else {
         return Ok(None);
     };
-    let (Some(x), Some(y)) = (number_of(x), number_of(y)) else {
+    let (Some(x), Some(y)) = (number_in(x), number_in(y)) else {
         return Ok(None);
     };
     let Some(asked) = asked_of(alloc, rest)? else {

@@ -2,7 +2,7 @@
 use crate::covers::text_of_runs;
 use doubles::{Fails, MemSink};
 use due_tiles::{DueFault, TilesFault, decode, encode, union, write_tiles};
-use example_table::{bytes_of, number_of, row_of};
+use example_table::{bytes_of, named_row, number_in};
 use osm_base::OutOfMemory;
 use std::alloc::{AllocError, Global};
 use tile_cover::TileRuns;
@@ -13,10 +13,10 @@ fn numbers_of(word: &str) -> Option<[u64; 4]> {
     let (row, columns) = rest.split_once(':')?;
     let (first, last) = columns.split_once('-')?;
     Some([
-        number_of(zoom)?,
-        number_of(row)?,
-        number_of(first)?,
-        number_of(last)?,
+        number_in(zoom)?,
+        number_in(row)?,
+        number_in(first)?,
+        number_in(last)?,
     ])
 }
 
@@ -91,7 +91,7 @@ pub fn read(alloc: Global, given: &str) -> Result<Option<String>, OutOfMemory> {
 }
 
 /// The tiles of two sets `RUNS | RUNS`.
-pub fn joined(alloc: Global, given: &str) -> Result<Option<String>, OutOfMemory> {
+pub fn joined_runs(alloc: Global, given: &str) -> Result<Option<String>, OutOfMemory> {
     let Some((one, other)) = given.split_once('|') else {
         return Ok(None);
     };
@@ -122,7 +122,7 @@ fn words_of(alloc: Global, bytes: &[u8]) -> Result<Option<String>, AllocError> {
 
 /// The lines of a set and of the tiles above, from a least zoom on: `LEAST RUNS`.
 pub fn listed(alloc: Global, given: &str) -> Result<Option<String>, OutOfMemory> {
-    let Some((least, runs)) = row_of(given) else {
+    let Some((least, runs)) = named_row(given) else {
         return Ok(None);
     };
     let Ok(least) = least.parse::<u32>() else {

@@ -1,6 +1,6 @@
 //! What works by lanes against a loop that takes one place or one box after the other, for lists of each length.
 use crate::chance::{box_of_two, is_far, place, places};
-use example_table::{number_of, row_of};
+use example_table::{named_row, number_in};
 use lanes_geo::{across, along, box_of, boxes_meet, odd_crossings};
 use osm_base::{GeoBox, OutOfMemory, Place};
 use std::alloc::{AllocError, Global};
@@ -26,9 +26,9 @@ pub fn agree(alloc: Global, given: &str) -> Result<Option<String>, OutOfMemory> 
 
 /// The kernel, the seed and the last length of a row.
 fn given_by(given: &str) -> Option<(&str, u64, u64)> {
-    let (kernel, numbers) = row_of(given)?;
-    let (seed, last) = row_of(numbers)?;
-    Some((kernel, number_of(seed)?, number_of(last)?))
+    let (kernel, numbers) = named_row(given)?;
+    let (seed, last) = named_row(numbers)?;
+    Some((kernel, number_in(seed)?, number_in(last)?))
 }
 
 /// Whether a kernel and the loop say the same of a list of this length. `None`: there is no such kernel.

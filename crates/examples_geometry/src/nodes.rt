@@ -2,7 +2,7 @@
 ghost use Rattle.std.specs.Prelude.{None, [], unwrap_or, slice_get};
 
 use crate::notation::{place_of, word_of_line};
-use example_table::number_of;
+use example_table::number_in;
 use line_build::{line_of, points_of};
 use osm_base::{Key, Lookup, Object, OutOfMemory, Place};
 use std::alloc::{AllocError, Global};
@@ -55,7 +55,7 @@ fn nodes_of(alloc: Global, text: &str) -> Result<Nodes, AllocError> {
 fn ids_of(alloc: Global, text: &str) -> Result<Option<Vec<u64>>, AllocError> {
     let mut ids = Vec::new(alloc);
     for word in text.split_ascii_whitespace() {
-        let Some(id) = number_of(word) else {
+        let Some(id) = number_in(word) else {
             return Ok(None);
         };
         ids.push(id)?;

@@ -90,7 +90,7 @@ fn extended_by(
 }
 
 /// Pieces joined to lines.
-pub fn joined(alloc: Global, given: &str) -> Result<Option<String>, OutOfMemory> {
+pub fn joined_lines(alloc: Global, given: &str) -> Result<Option<String>, OutOfMemory> {
     let Some(pieces) = pieces_of(alloc, given)? else {
         return Ok(None);
     };

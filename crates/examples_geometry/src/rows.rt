@@ -1,6 +1,6 @@
 //! Rows written as lines.
 use crate::shapes::geometry_of;
-use example_table::{signed_of, text_of};
+use example_table::{signed_of, unescaped};
 use osm_base::{Cell, Cells, Geometry, OutOfMemory, Places, Row, Text, TryCopy};
 use row_text::push_row;
 use std::alloc::{AllocError, Global};
@@ -102,7 +102,7 @@ fn int_of(field: &str) -> Option<Cell> {
 }
 
 fn text_cell_of(alloc: Global, field: &str) -> Result<Option<Cell>, OutOfMemory> {
-    match text_of(alloc, field)? {
+    match unescaped(alloc, field)? {
         None => Ok(None),
         Some(text) => Ok(Some(Cell::Text(Text::from_string(text)))),
     }

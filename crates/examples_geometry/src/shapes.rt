@@ -1,12 +1,12 @@
 //! Geometries as the tables write them.
 use crate::notation::{line_of_word, lines_of, place_of};
-use example_table::row_of;
+use example_table::named_row;
 use osm_base::{Geometry, OutOfMemory, Polygons};
 use std::alloc::Global;
 
 /// The geometry of a text: `point PLACE`, `line LINE`, `lines LINE..`, `area RING..` with a sign between polygons.
 pub fn geometry_of(alloc: Global, text: &str, sign: char) -> Result<Option<Geometry>, OutOfMemory> {
-    let Some((kind, text)) = row_of(text) else {
+    let Some((kind, text)) = named_row(text) else {
         return Ok(None);
     };
     match kind {

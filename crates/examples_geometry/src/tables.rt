@@ -1,5 +1,5 @@
 //! Tables of boundaries.
-use example_table::{bytes_of, number_of, signed_of};
+use example_table::{bytes_of, number_in, signed_of};
 use osm_base::OutOfMemory;
 use std::alloc::Global;
 use tile_cover::{Bounds, BoundsFault, read_bounds};
@@ -34,7 +34,7 @@ fn steps_text(alloc: Global, word: &str) -> Result<Option<String>, OutOfMemory> 
 fn steps_of(word: &str) -> Option<(i64, i64, u64)> {
     let (first, rest) = word.split_once(',')?;
     let (step, count) = rest.split_once(',')?;
-    Some((signed_of(first)?, signed_of(step)?, number_of(count)?))
+    Some((signed_of(first)?, signed_of(step)?, number_in(count)?))
 }
 
 /// What reading these bytes gives: the zoom, or the line that is not good.

@@ -5,7 +5,7 @@ ghost use Rattle.bucket_store.specs.Transaction.{has_refused};
 use bucket_store::Buckets;
 use chain_store::Root;
 use doubles::{Fails, MemDisk};
-use example_table::{bytes_of, number_of, row_of};
+use example_table::{bytes_of, named_row, number_in};
 use osm_base::{Bytes, Limits};
 use page_journal::{StoreFault, format};
 use std::alloc::{AllocError, Global};
@@ -38,7 +38,7 @@ enum Change {
 
 /// Does a deed. False: there is no such deed, or the disk refuses it.
 pub fn is_done(alloc: Global, disk: &mut MemDisk, deed: &str) -> Result<bool, AllocError> {
-    let Some((word, text)) = row_of(deed) else {
+    let Some((word, text)) = named_row(deed) else {
         return Ok(false);
     };
     match word {
@@ -69,7 +69,7 @@ fn is_held(alloc: Global, disk: &mut MemDisk, bytes: Option<Vec<u8>>) -> bool {
 
 // So many of these bytes, from the first on.
 fn front_of(alloc: Global, bytes: &[u8], text: &str) -> Result<Option<Vec<u8>>, AllocError> {
-    let Some(count) = number_of(text) else {
+    let Some(count) = number_in(text) else {
         return Ok(None);
     };
     let count = usize::try_from(count)
@@ -81,7 +81,7 @@ fn front_of(alloc: Global, bytes: &[u8], text: &str) -> Result<Option<Vec<u8>>, 
 // The change that a deed writes.
 fn change_of(alloc: Global, word: &str, text: &str) -> Result<Option<Change>, AllocError> {
     match word {
-        "buckets" => Ok(number_of(text).map(|count| Change::Buckets(count))),
+        "buckets" => Ok(number_in(text).map(|count| Change::Buckets(count))),
         "fields" => Ok(fields_of(text)),
         "style" => Ok(bytes_of(alloc, text)?.map(|bytes| Change::Style(bytes))),
         "put" => value_of(alloc, text),
@@ -91,27 +91,27 @@ fn change_of(alloc: Global, word: &str, text: &str) -> Result<Option<Change>, Al
 
 // The format, the state and the number of changes.
 fn fields_of(text: &str) -> Option<Change> {
-    let (format, behind) = row_of(text)?;
-    let (state, changes) = row_of(behind)?;
+    let (format, behind) = named_row(text)?;
+    let (state, changes) = named_row(behind)?;
     Some(Change::Fields {
-        format: number_of(format)?,
-        state: number_of(state)?,
-        changes: number_of(changes)?,
+        format: number_in(format)?,
+        state: number_in(state)?,
+        changes: number_in(changes)?,
     })
 }
 
 // The number of a map, a key, and the bytes of its value.
 fn value_of(alloc: Global, text: &str) -> Result<Option<Change>, AllocError> {
-    let Some((map, behind)) = row_of(text) else {
+    let Some((map, behind)) = named_row(text) else {
         return Ok(None);
     };
-    let Some((key, value)) = row_of(behind) else {
+    let Some((key, value)) = named_row(behind) else {
         return Ok(None);
     };
-    let Some(map) = number_of(map).and_then(StoreMap::with_number) else {
+    let Some(map) = number_in(map).and_then(StoreMap::with_number) else {
         return Ok(None);
     };
-    match (number_of(key), bytes_of(alloc, value)?) {
+    match (number_in(key), bytes_of(alloc, value)?) {
         (Some(key), Some(bytes)) => Ok(Some(Change::Value { map, key, bytes })),
         _ => Ok(None),
     }

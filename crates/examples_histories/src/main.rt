@@ -25,7 +25,7 @@ mod stores;
 mod version;
 mod world;
 
-use example_table::{is_told, refuse_row, row_of};
+use example_table::{is_told, named_row, refuse_row};
 use row::{Row, row_in};
 use setting::{Rules, rules_of_all};
 use std::fs::{self, Files};
@@ -61,7 +61,7 @@ fn passes_all<R: Threads + Sync + Files + Print + Eprint + AllocGlobal>(
 ) -> io::Result<bool> {
     let table = fs::read_to_string(rt, name)?;
     for line in table.lines() {
-        if row_of(line).is_some() && !passes(rt, rules, name, line)? {
+        if named_row(line).is_some() && !passes(rt, rules, name, line)? {
             return Ok(false);
         }
     }

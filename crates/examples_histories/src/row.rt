@@ -1,6 +1,6 @@
 //! A row of a table.
 
-use example_table::{row_of, sides_of};
+use example_table::{named_row, sides_of};
 
 /// The kind of an example, its name, what is given and what is wanted.
 #[derive(Clone, Copy)]
@@ -13,7 +13,7 @@ pub struct Row<'a> {
 
 /// The row of a line of a table. `None`: it is none of this table.
 pub fn row_in<'a>(table: &str, line: &'a str) -> Option<Row<'a>> {
-    let (first, rest) = row_of(line)?;
+    let (first, rest) = named_row(line)?;
     if table == "histories.txt" {
         return Some(Row {
             kind: "histories",
@@ -23,7 +23,7 @@ pub fn row_in<'a>(table: &str, line: &'a str) -> Option<Row<'a>> {
         });
     }
     let (given, wanted) = sides_of(rest)?;
-    let (name, given) = row_of(given)?;
+    let (name, given) = named_row(given)?;
     Some(Row {
         kind: first,
         name,

@@ -8,7 +8,7 @@ use crate::followed::follows_of;
 use crate::history::histories;
 use crate::opening::push_after;
 use crate::setting::{Rules, Setting};
-use example_table::number_of;
+use example_table::number_in;
 use osm_base::{LimitNumbers, Limits};
 use std::alloc::Global;
 use std::fs::{self, Files};
@@ -72,7 +72,7 @@ fn given_by<R: Files + AllocGlobal>(rt: &R, words: &str) -> io::Result<Given> {
 
 // Takes up a word: a number, `clear` for an empty text, or the path of a file.
 fn take<R: Files + AllocGlobal>(rt: &R, given: &mut Given, word: &str) -> io::Result<()> {
-    if let Some(number) = number_of(word) {
+    if let Some(number) = number_in(word) {
         given.numbers.push(number)?;
     } else if word == "clear" {
         given.texts.push(String::new(rt.alloc()))?;

@@ -1,7 +1,7 @@
 //! Appends once more, with the option that says how many files are read ahead.
 
 use crate::turn::Turn;
-use example_table::number_of;
+use example_table::number_in;
 use std::alloc::{AllocError, Global};
 
 /// The options with which each append is run once more.
@@ -57,5 +57,5 @@ fn fault_behind(alloc: Global, fault: &str) -> Result<String, AllocError> {
 
 /// The number behind this one.
 fn behind(number: &str) -> u64 {
-    number_of(number).unwrap_or(0).saturating_add(1)
+    number_in(number).unwrap_or(0).saturating_add(1)
 }

@@ -1,6 +1,6 @@
 //! A gate that has readers and the updater take turns, or holds workers or a change.
 
-use example_table::{number_of, row_of};
+use example_table::{named_row, number_in};
 use outside::{Gate, GatePlace};
 use std::alloc::{AllocError, Global};
 use std::sync::atomic::{AtomicBool, AtomicU64, Ordering};
@@ -36,28 +36,28 @@ impl Holds {
     /// What a row holds.
     pub fn of(word: &str, text: &str) -> Option<Holds> {
         let mut holds = Holds::NOTHING;
-        let (first, rest) = row_of(text)?;
-        let first = number_of(first)?;
+        let (first, rest) = named_row(text)?;
+        let first = number_in(first)?;
         match word {
             "ahead-held" => holds.file = first,
             "built-held" => holds.workers = first,
             _ => return in_turn(word, first, rest),
         }
-        holds.turns = number_of(rest)?;
+        holds.turns = number_in(rest)?;
         Some(holds)
     }
 }
 
 /// That so many readers and the updater take turns.
 fn in_turn(word: &str, readers: u64, text: &str) -> Option<Holds> {
-    let (step, rest) = row_of(text)?;
-    let (changes, turns) = row_of(rest)?;
+    let (step, rest) = named_row(text)?;
+    let (changes, turns) = named_row(rest)?;
     let mut holds = Holds::NOTHING;
     holds.readers = readers;
-    holds.step = number_of(step)?;
-    holds.changes = number_of(changes)?;
+    holds.step = number_in(step)?;
+    holds.changes = number_in(changes)?;
     holds.building = word == "in-build";
-    holds.turns = number_of(turns)?;
+    holds.turns = number_in(turns)?;
     Some(holds)
 }
 

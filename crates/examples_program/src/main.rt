@@ -23,7 +23,7 @@ mod watched;
 mod words;
 
 use example::Example;
-use example_table::{is_told, refuse_row, row_of, sides_of};
+use example_table::{is_told, named_row, refuse_row, sides_of};
 use running::difference;
 use std::fs::{self, Files};
 use std::io;
@@ -64,7 +64,7 @@ fn words_pass<R: Threads + Wait + Sync + Print + Eprint + AllocGlobal>(
     table: &str,
 ) -> io::Result<bool> {
     for line in table.lines() {
-        if row_of(line).is_none() {
+        if named_row(line).is_none() {
             continue;
         }
         let passed = match sides_of(line) {
@@ -90,7 +90,7 @@ fn runs_pass<R: Threads + Wait + Sync + Print + Eprint + AllocGlobal>(
     let mut name = String::new(rt.alloc());
     let mut example = Example::new(rt.alloc())?;
     for line in table.lines() {
-        let Some((word, text)) = row_of(line) else {
+        let Some((word, text)) = named_row(line) else {
             continue;
         };
         if word == "run" {

@@ -1,11 +1,11 @@
 //! What the rows of a run add to it. False, or `None`: a row is not in its form.
 
-use example_table::{bytes_of, number_of, text_of, words_of};
+use example_table::{bytes_of, number_in, unescaped, words_of};
 use std::alloc::{AllocError, Global};
 
 /// Sets a number.
 pub fn set_number(number: &mut u64, text: &str) -> bool {
-    match number_of(text) {
+    match number_in(text) {
         Some(value) => {
             *number = value;
             true
@@ -16,7 +16,7 @@ pub fn set_number(number: &mut u64, text: &str) -> bool {
 
 /// Sets a text.
 pub fn set_text(alloc: Global, place: &mut String, text: &str) -> Result<bool, AllocError> {
-    match text_of(alloc, text)? {
+    match unescaped(alloc, text)? {
         Some(value) => {
             *place = value;
             Ok(true)
@@ -57,7 +57,7 @@ fn push_word(
     count: u64,
     text: &str,
 ) -> Result<bool, AllocError> {
-    let Some(word) = text_of(alloc, text)? else {
+    let Some(word) = unescaped(alloc, text)? else {
         return Ok(false);
     };
     for _ in 0..count {
@@ -94,7 +94,7 @@ pub fn push_bytes(
 /// A number, and the text behind it.
 fn counted(text: &str) -> Option<(u64, &str)> {
     let (number, rest) = text.split_once(' ')?;
-    Some((number_of(number)?, rest))
+    Some((number_in(number)?, rest))
 }
 
 /// Adds a part so many times, each with this end.

@@ -240,7 +240,7 @@ fn compared(
     disk: &[u8],
     wanted: &Wanted,
 ) -> Result<Option<String>, AllocError> {
-    let fault = text_of(alloc, outcome)?;
+    let fault = outcome_text(alloc, outcome)?;
     if !wanted.is_fault(fault.as_str()) {
         return Ok(Some(format!(in alloc; "the fault is {fault}")?));
     }
@@ -308,7 +308,7 @@ fn disk_of(alloc: Global, held: Vec<u8>, fails: Fails) -> MemDisk {
 }
 
 /// The line of the fault, or nothing.
-fn text_of(alloc: Global, outcome: &Outcome) -> Result<String, AllocError> {
+fn outcome_text(alloc: Global, outcome: &Outcome) -> Result<String, AllocError> {
     match &outcome.fault {
         None => Ok(String::new(alloc)),
         Some(fault) => match fault_line(alloc, fault) {

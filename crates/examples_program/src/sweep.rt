@@ -1,7 +1,7 @@
 //! How a run is spoiled again and again: each of its calls made to fail in turn, or each page of its disk overwritten.
 
 use crate::turn::{Plan, Put, Turn};
-use example_table::{number_of, row_of};
+use example_table::{named_row, number_in};
 use std::alloc::{AllocError, Global};
 
 /// More calls than any run of the tables makes.
@@ -31,7 +31,7 @@ pub struct Sweep {
 impl Sweep {
     /// The one of a row `each-call PART COUNT` or `each-page PART COUNT`.
     pub fn of(word: &str, text: &str) -> Option<Sweep> {
-        let (name, count) = row_of(text)?;
+        let (name, count) = named_row(text)?;
         let part = if word == "each-call" {
             caller_of(name)?
         } else {
@@ -39,7 +39,7 @@ impl Sweep {
         };
         Some(Sweep {
             part,
-            refused: number_of(count)?,
+            refused: number_in(count)?,
         })
     }
 

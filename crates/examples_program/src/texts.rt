@@ -1,7 +1,7 @@
 //! Texts with names, which files of runs may hold.
 
 use crate::rows::push_bytes;
-use example_table::row_of;
+use example_table::named_row;
 use std::alloc::{AllocError, Global};
 
 /// Texts, each with its name.
@@ -29,7 +29,7 @@ impl Texts {
     pub fn of(alloc: Global, table: &str) -> Result<Option<Self>, AllocError> {
         let mut texts = Self::new(alloc);
         for line in table.lines() {
-            let Some((word, text)) = row_of(line) else {
+            let Some((word, text)) = named_row(line) else {
                 continue;
             };
             if !texts.set(alloc, word, text)? {

@@ -5,7 +5,7 @@ use crate::rows::{push_bytes, push_words, set_number};
 use crate::sweep::Sweep;
 use crate::texts::Texts;
 use crate::wanted::Wanted;
-use example_table::{bytes_of, number_of, row_of};
+use example_table::{bytes_of, named_row, number_in};
 use std::alloc::{AllocError, Global};
 
 /// The most files that a run may be given.
@@ -163,7 +163,7 @@ impl Turn {
 
     /// How many bytes of the disk are left, or how often the run is done.
     fn set_count(&mut self, word: &str, text: &str) -> bool {
-        let Some(number) = number_of(text) else {
+        let Some(number) = number_in(text) else {
             return false;
         };
         if word == "cut" {
@@ -176,10 +176,10 @@ impl Turn {
 
     /// The number of a place and the bytes that are put there.
     fn push_put(&mut self, alloc: Global, text: &str) -> Result<bool, AllocError> {
-        let Some((at, field)) = row_of(text) else {
+        let Some((at, field)) = named_row(text) else {
             return Ok(false);
         };
-        match (number_of(at), bytes_of(alloc, field)?) {
+        match (number_in(at), bytes_of(alloc, field)?) {
             (Some(at), Some(bytes)) => {
                 self.puts.push(Put {
                     at: at as usize,
@@ -194,10 +194,10 @@ impl Turn {
     /// Begins the file of the word with this number, and with the text of a name where one stands behind. The files between are
     /// empty.
     fn begin_file(&mut self, alloc: Global, texts: &Texts, text: &str) -> Result<bool, AllocError> {
-        let Some((number, name)) = row_of(text) else {
+        let Some((number, name)) = named_row(text) else {
             return Ok(false);
         };
-        let Some(number) = number_of(number) else {
+        let Some(number) = number_in(number) else {
             return Ok(false);
         };
         if number as usize >= MAX_FILES || (number as usize) < self.files.len() {

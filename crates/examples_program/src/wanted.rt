@@ -1,7 +1,7 @@
 //! What is wanted of a run.
 
 use crate::rows::{push_bytes, set_number, set_text};
-use example_table::{bytes_of, number_of, row_of};
+use example_table::{bytes_of, named_row, number_in};
 use std::alloc::{AllocError, Global};
 
 /// How a run is to end. The texts are empty where there is no fault and no store. What the disk holds then counts, or not. Where it is `begun`,
@@ -107,10 +107,10 @@ impl Wanted {
 
     /// The number of a place and the bytes that the disk is to hold there.
     fn push_piece(&mut self, alloc: Global, text: &str) -> Result<bool, AllocError> {
-        let Some((at, field)) = row_of(text) else {
+        let Some((at, field)) = named_row(text) else {
             return Ok(false);
         };
-        match (number_of(at), bytes_of(alloc, field)?) {
+        match (number_in(at), bytes_of(alloc, field)?) {
             (Some(at), Some(bytes)) => {
                 self.pieces.push(Piece {
                     at: at as usize,

@@ -2,14 +2,14 @@
 
 use crate::example::Example;
 use crate::texts::Texts;
-use example_table::row_of;
+use example_table::named_row;
 use std::alloc::{AllocError, Global};
 
 /// The run of the words of a row: `WORD.. => usage`, where they are no command, `WORD.. => store PATH` where they make one there,
 /// `WORD.. => opens PATH` where they want one there, or `WORD.. => tag KEY NUMBER..` with the numbers of the words that are files. Each word has a file, whose
 /// node has the number of the word as its id and the tag KEY, and the nodes printed tell which were read.
 pub fn example_of(alloc: Global, given: &str, wanted: &str) -> Result<Option<Example>, AllocError> {
-    let Some((kind, text)) = row_of(wanted) else {
+    let Some((kind, text)) = named_row(wanted) else {
         return Ok(None);
     };
     let mut example = Example::new(alloc)?;
@@ -54,7 +54,7 @@ fn set_opens(alloc: Global, example: &mut Example, path: &str) -> Result<bool, A
 
 /// The words ask for the nodes with a tag of the files of some words.
 fn set_files(alloc: Global, example: &mut Example, text: &str) -> Result<bool, AllocError> {
-    let Some((key, numbers)) = row_of(text) else {
+    let Some((key, numbers)) = named_row(text) else {
         return Ok(false);
     };
     let count = match example.turns.last() {

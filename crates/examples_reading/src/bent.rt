@@ -13,11 +13,11 @@ pub fn bent(alloc: Global, dice: &mut Dice, line: &[u8]) -> Result<Vec<u8>, Allo
     let byte = [BYTES[dice.below(BYTES.len())]];
     let (first, rest) = back.split_at(back.len().min(1));
     match dice.below(8) {
-        0 => joined(alloc, [front, &byte, rest, &[]]),
-        1 => joined(alloc, [front, rest, &[], &[]]),
-        2 => joined(alloc, [front, first, back, &[]]),
-        3 => joined(alloc, [front, &byte, back, &[]]),
-        4 => joined(alloc, [front, &[], &[], &[]]),
+        0 => joined_texts(alloc, [front, &byte, rest, &[]]),
+        1 => joined_texts(alloc, [front, rest, &[], &[]]),
+        2 => joined_texts(alloc, [front, first, back, &[]]),
+        3 => joined_texts(alloc, [front, &byte, back, &[]]),
+        4 => joined_texts(alloc, [front, &[], &[], &[]]),
         way => with_pieces(
             alloc,
             way,
@@ -42,11 +42,11 @@ fn with_pieces(
     let (more, pieces) = cut_before(mark, back);
     let (piece, behind) = cut_before(mark, pieces);
     let (next, rest) = cut_before(mark, behind);
-    let front = joined(alloc, [before, more, &[], &[]])?;
+    let front = joined_texts(alloc, [before, more, &[], &[]])?;
     match way {
-        5 => joined(alloc, [&front, behind, &[], &[]]),
-        6 => joined(alloc, [&front, piece, pieces, &[]]),
-        _ => joined(alloc, [&front, next, piece, rest]),
+        5 => joined_texts(alloc, [&front, behind, &[], &[]]),
+        6 => joined_texts(alloc, [&front, piece, pieces, &[]]),
+        _ => joined_texts(alloc, [&front, next, piece, rest]),
     }
 }
 
@@ -61,7 +61,7 @@ fn cut_before(mark: u8, text: &[u8]) -> (&[u8], &[u8]) {
 }
 
 /// Texts one behind the other.
-fn joined(alloc: Global, texts: [&[u8]; 4]) -> Result<Vec<u8>, AllocError> {
+fn joined_texts(alloc: Global, texts: [&[u8]; 4]) -> Result<Vec<u8>, AllocError> {
     let mut line = Vec::with_capacity(alloc, 256)?;
     for text in texts {
         line.extend_from_slice(text)?;

@@ -5,7 +5,7 @@ use crate::entries::read_entries;
 use crate::key::put_number;
 use crate::questions::put_answers;
 use dep_closure::ways_due;
-use example_table::{bytes_of, row_of};
+use example_table::{bytes_of, named_row};
 use object_fold::{Change, ObjectIndex, Objects};
 use osm_base::{Back, Ids, Limits};
 use std::alloc::{AllocError, Global};
@@ -54,7 +54,7 @@ pub fn folds(
 
 /// Adds what `FILE CHANGE` finds: the ids of the ways that the change makes due.
 pub fn ways(alloc: Global, found: &mut Vec<u8>, files: &str) -> Result<bool, AllocError> {
-    let Some((_, field)) = row_of(files) else {
+    let Some((_, field)) = named_row(files) else {
         return Ok(false);
     };
     match change_of(alloc, field) {

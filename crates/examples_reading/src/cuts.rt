@@ -2,7 +2,7 @@
 ghost use Rattle.std.specs.Prelude.{◌<◌};
 
 use crate::cutting::{put_copied, put_lent};
-use example_table::{bytes_of, number_of, row_of};
+use example_table::{bytes_of, named_row, number_in};
 use osm_base::{LimitNumbers, Limits};
 use std::alloc::{AllocError, Global};
 
@@ -28,11 +28,11 @@ pub fn cuts(
 
 /// The limits that the first two fields write, and the text behind them.
 fn limits_of(text: &str) -> Option<(Limits, &str)> {
-    let (line_bytes, text) = row_of(text)?;
-    let (lines, file) = row_of(text)?;
+    let (line_bytes, text) = named_row(text)?;
+    let (lines, file) = named_row(text)?;
     let limits = Limits::new(LimitNumbers {
-        line_bytes: number_of(line_bytes)?,
-        lines: number_of(lines)?,
+        line_bytes: number_in(line_bytes)?,
+        lines: number_in(lines)?,
         ..Limits::standard().numbers()
     })?;
     Some((limits, file))

@@ -2,7 +2,7 @@
 use crate::key::{put_key, put_number};
 use crate::lots::is_read_by_lots;
 use doubles::{Fails, MemInputs};
-use example_table::{bytes_of, number_of, row_of};
+use example_table::{bytes_of, named_row, number_in};
 use object_fold::{Change, FileFault, WholeFault, read_all, read_file};
 use opl_object::Why;
 use osm_base::{Bytes, Entry, FileList, Ids, LimitKind, LimitNumbers, Limits, OutOfMemory};
@@ -126,23 +126,23 @@ fn put_field(alloc: Global, bytes: &mut Vec<u8>, field: &str) -> Result<bool, Al
 
 /// The number in front of a row, and the text behind it.
 fn numbered(text: &str) -> Option<(u64, &str)> {
-    let (number, text) = row_of(text)?;
-    Some((number_of(number)?, text))
+    let (number, text) = named_row(text)?;
+    Some((number_in(number)?, text))
 }
 
 /// The limits in front of a row, and the text behind them: `standard`, or bytes of a line, lines and entries with commas
 /// between.
 fn limited(text: &str) -> Option<(Limits, &str)> {
-    let (field, text) = row_of(text)?;
+    let (field, text) = named_row(text)?;
     if field == "standard" {
         return Some((Limits::standard(), text));
     }
     let (line_bytes, rest) = field.split_once(',')?;
     let (lines, entries) = rest.split_once(',')?;
     let limits = Limits::new(LimitNumbers {
-        line_bytes: number_of(line_bytes)?,
-        lines: number_of(lines)?,
-        entries: number_of(entries)?,
+        line_bytes: number_in(line_bytes)?,
+        lines: number_in(lines)?,
+        entries: number_in(entries)?,
         ..Limits::standard().numbers()
     })?;
     Some((limits, text))

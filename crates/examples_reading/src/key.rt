@@ -2,7 +2,7 @@
 ghost use Rattle.std.specs.Prelude.{IfSome};
 ghost use Rattle.osm_base.specs.values.Key.{IsId};
 
-use example_table::number_of;
+use example_table::number_in;
 use osm_base::{Key, Kind, MAX_ID};
 use std::alloc::{AllocError, Global};
 
@@ -43,7 +43,7 @@ pub fn key_of(field: &str) -> Option<Key> {
 fn id_of(field: &str) -> Option<u64>
     ensures id { IfSome result IsId }
 {
-    let id = number_of(field)?;
+    let id = number_in(field)?;
     if id < 1 || id > MAX_ID {
         return None;
     }

@@ -31,7 +31,7 @@ mod questions;
 mod tags;
 mod values;
 
-use example_table::{bytes_of, row_of, sides_of};
+use example_table::{bytes_of, named_row, sides_of};
 use million::are_made_lines_fine;
 use std::alloc::{AllocError, Global};
 use std::process::ExitCode;
@@ -72,7 +72,7 @@ fn passes_all<R: Print + Eprint + AllocGlobal + Threads + Sync>(
     table: &str,
 ) -> io::Result<bool> {
     for line in table.lines() {
-        if let Some((word, text)) = row_of(line) {
+        if let Some((word, text)) = named_row(line) {
             if !passes(rt, name, word, text)? {
                 return Ok(false);
             }

@@ -2,7 +2,7 @@
 use crate::changes::{change_of, fold_files};
 use crate::key::put_number;
 use dep_closure::{PendingFault, pending};
-use example_table::{bytes_of, number_of, row_of};
+use example_table::{bytes_of, named_row, number_in};
 use object_fold::{Change, ObjectIndex, Objects};
 use osm_base::{Limits, PendingSet};
 use std::alloc::{AllocError, Global};
@@ -10,7 +10,7 @@ use style_read::{Style, read_style};
 
 /// Adds what `STYLE FILE CHANGE LIMIT` finds: the keys of the objects that are pending.
 pub fn sets(alloc: Global, found: &mut Vec<u8>, given: &str) -> Result<bool, AllocError> {
-    let Some((style, rest)) = row_of(given) else {
+    let Some((style, rest)) = named_row(given) else {
         return Ok(false);
     };
     match style_of(alloc, style) {
@@ -37,10 +37,10 @@ struct Fields<'a> {
 
 /// The fields that a text has.
 fn fields_of(text: &str) -> Option<Fields<'_>> {
-    let (file, text) = row_of(text)?;
-    let (change, limit) = row_of(text)?;
+    let (file, text) = named_row(text)?;
+    let (change, limit) = named_row(text)?;
     let mut numbers = Limits::standard().numbers();
-    numbers.pending = number_of(limit)?;
+    numbers.pending = number_in(limit)?;
     let limits = Limits::new(numbers)?;
     Some(Fields {
         file,

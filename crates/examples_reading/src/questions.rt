@@ -2,7 +2,7 @@
 ghost use Rattle.std.specs.Prelude.{◌≡◌, false};
 
 use crate::key::key_of;
-use example_table::{number_of, row_of};
+use example_table::{named_row, number_in};
 use object_fold::{ObjectIndex, Objects};
 use osm_base::{Back, DegreesBuffer, Ids, Lookup, Object, Tags};
 use std::alloc::AllocError;
@@ -28,7 +28,7 @@ pub fn put_answers(
 fn unanswered<'a>(objects: &mut Objects, questions: &'a str) -> &'a str {
     let mut rest = questions;
     for _ in 0..questions.len() {
-        match row_of(rest) {
+        match named_row(rest) {
             Some((word, text)) => match behind(objects, word, text) {
                 Some(behind) => rest = behind,
                 None => return rest,
@@ -41,18 +41,18 @@ fn unanswered<'a>(objects: &mut Objects, questions: &'a str) -> &'a str {
 
 /// The text behind a question that objects answer as it says.
 fn behind<'a>(objects: &mut Objects, word: &str, text: &'a str) -> Option<&'a str> {
-    let (subject, rest) = row_of(text)?;
+    let (subject, rest) = named_row(text)?;
     let (good, rest) = match word {
         "there" => (is_there(objects, subject)?, rest),
         "gone" => (!is_there(objects, subject)?, rest),
-        "placeless" => (objects.place_of(number_of(subject)?).is_none(), rest),
+        "placeless" => (objects.place_of(number_in(subject)?).is_none(), rest),
         "place" => {
-            let (lon, rest) = row_of(rest)?;
-            let (lat, rest) = row_of(rest).unwrap_or((rest, ""));
-            (is_at(objects, number_of(subject)?, lon, lat), rest)
+            let (lon, rest) = named_row(rest)?;
+            let (lat, rest) = named_row(rest).unwrap_or((rest, ""));
+            (is_at(objects, number_in(subject)?, lon, lat), rest)
         }
         "tagged" | "bare" => {
-            let (name, rest) = row_of(rest)?;
+            let (name, rest) = named_row(rest)?;
             (
                 is_tagged(objects, subject, name)? == (word == "tagged"),
                 rest,
@@ -60,7 +60,7 @@ fn behind<'a>(objects: &mut Objects, word: &str, text: &'a str) -> Option<&'a st
         }
         _ => {
             let (id, ids) = subject.split_once('=')?;
-            (are_listers(objects, word, number_of(id)?, ids), rest)
+            (are_listers(objects, word, number_in(id)?, ids), rest)
         }
     };
     if good { Some(rest) } else { None }
@@ -150,7 +150,7 @@ fn are_ids(ids: &[u64], field: &str) -> bool {
     }
     let mut rest = ids;
     for number in field.split(',') {
-        match (rest, number_of(number)) {
+        match (rest, number_in(number)) {
             ([first, behind @ ..], Some(number)) if *first == number => rest = behind,
             _ => return false,
         }

@@ -1,6 +1,6 @@
 //! Examples of values: coordinates, keys and limits.
 use crate::key::key_of;
-use example_table::{number_of, row_of, signed_of};
+use example_table::{named_row, number_in, signed_of};
 use osm_base::{DegreesBuffer, LimitNumbers, Limits};
 use std::alloc::AllocError;
 use std::cmp::Ordering;
@@ -41,15 +41,15 @@ pub fn limits(line_bytes: &str, text: &str) -> Option<&'static str> {
 
 /// The numbers that the fields write.
 fn numbers_of(line_bytes: &str, text: &str) -> Option<LimitNumbers> {
-    let (lines, text) = row_of(text)?;
-    let (entries, text) = row_of(text)?;
-    let (pages, pending) = row_of(text)?;
+    let (lines, text) = named_row(text)?;
+    let (entries, text) = named_row(text)?;
+    let (pages, pending) = named_row(text)?;
     Some(LimitNumbers {
-        line_bytes: number_of(line_bytes)?,
-        lines: number_of(lines)?,
-        entries: number_of(entries)?,
-        pages: number_of(pages)?,
-        pending: number_of(pending)?,
+        line_bytes: number_in(line_bytes)?,
+        lines: number_in(lines)?,
+        entries: number_in(entries)?,
+        pages: number_in(pages)?,
+        pending: number_in(pending)?,
     })
 }
 

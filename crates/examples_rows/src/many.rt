@@ -1,6 +1,6 @@
 //! Styles of many parts, made from their numbers.
 use crate::styles::put_refusal;
-use example_table::{number_of, row_of};
+use example_table::{named_row, number_in};
 use std::alloc::{AllocError, Global};
 use style_read::{StyleFault, read_style};
 
@@ -27,9 +27,9 @@ fn put_read(alloc: Global, answer: &mut String, style: &[u8]) -> Result<bool, Al
 
 /// Three numbers behind one another.
 fn numbers_of(given: &str) -> Option<(u64, u64, u64)> {
-    let (first, rest) = row_of(given)?;
-    let (second, third) = row_of(rest)?;
-    Some((number_of(first)?, number_of(second)?, number_of(third)?))
+    let (first, rest) = named_row(given)?;
+    let (second, third) = named_row(rest)?;
+    Some((number_in(first)?, number_in(second)?, number_in(third)?))
 }
 
 /// Adds so many selections and tables, and so many columns behind the last table.

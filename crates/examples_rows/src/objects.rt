@@ -1,5 +1,5 @@
 //! Objects of a row, and the rows of tables that they give.
-use example_table::{bytes_of, number_of};
+use example_table::{bytes_of, number_in};
 use object_fold::Objects;
 use opl_object::read_line;
 use osm_base::{Entry, Key, Object, Row, RowChange, TableRow, TableRows, Tables};
@@ -250,7 +250,7 @@ pub fn selected(alloc: Global, answer: &mut String, given: &str) -> Result<bool,
 fn is_selected(alloc: Global, given: &str) -> Option<bool> {
     let (style, rest) = given.split_once(BAR)?;
     let (number, line) = rest.split_once(BAR)?;
-    let number = number_of(number)?;
+    let number = number_in(number)?;
     match style_of(alloc, style) {
         Some(style) => selects_line(alloc, &style, number, line),
         None => None,

@@ -1,5 +1,5 @@
 //! The texts of tables, and the numbers of rows in them.
-use example_table::{number_of, row_of};
+use example_table::{named_row, number_in};
 use osm_base::{
     Cell, Cells, Geometry, Key, Kind, MAX_ID, OutOfMemory, Place, Row, RowChange, Tables, Text,
     TryCopy,
@@ -11,7 +11,7 @@ use style_read::{Style, read_style};
 /// Adds the text of the table 1 of a row `SOURCE TABLE:KIND:ID..`; that table has this source. Each row has
 /// its own word as its cell, and its point is 0 0.
 pub fn text(alloc: Global, answer: &mut String, given: &str) -> Result<bool, AllocError> {
-    let Some((source, words)) = row_of(given) else {
+    let Some((source, words)) = named_row(given) else {
         return Ok(false);
     };
     match style_of(alloc, source) {
@@ -22,7 +22,7 @@ pub fn text(alloc: Global, answer: &mut String, given: &str) -> Result<bool, All
 
 /// Adds the text of the table 1 of a copy of such tables, out of which the rows were taken once it was made.
 pub fn copied(alloc: Global, answer: &mut String, given: &str) -> Result<bool, AllocError> {
-    let Some((source, words)) = row_of(given) else {
+    let Some((source, words)) = named_row(given) else {
         return Ok(false);
     };
     match style_of(alloc, source) {
@@ -45,7 +45,7 @@ pub fn number(alloc: Global, answer: &mut String, given: &str) -> Result<bool, A
 
 /// The number that the row of an object has in a table with a source.
 fn number_in(alloc: Global, given: &str) -> Option<i64> {
-    let (source, word) = row_of(given)?;
+    let (source, word) = named_row(given)?;
     let key = key_of(word)?;
     let style = style_of(alloc, source)?;
     Some(row_number(&style, 1, key))
@@ -174,7 +174,7 @@ fn row_with(alloc: Global, word: &str) -> Result<Row, OutOfMemory> {
 /// The table and the key of a word `TABLE:KIND:ID`.
 pub fn spot_of(word: &str) -> Option<(u32, Key)> {
     let (table, key) = word.split_once(':')?;
-    let table = u32::try_from(number_of(table)?).ok()?;
+    let table = u32::try_from(number_in(table)?).ok()?;
     Some((table, key_of(key)?))
 }
 
@@ -182,7 +182,7 @@ pub fn spot_of(word: &str) -> Option<(u32, Key)> {
 fn key_of(word: &str) -> Option<Key> {
     let (kind, id) = word.split_once(':')?;
     let kind = kind_of(kind)?;
-    let id = number_of(id)?;
+    let id = number_in(id)?;
     if id == 0 || id > MAX_ID {
         return None;
     }

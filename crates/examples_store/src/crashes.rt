@@ -3,7 +3,7 @@
 use crate::deeds::put_bytes;
 use crate::stores::{opened_once, put_outcome};
 use doubles::{CrashPick, MemDisk};
-use example_table::{number_of, row_of};
+use example_table::{named_row, number_in};
 use std::alloc::{AllocError, Global};
 
 /// What unsynced ranges may hold.
@@ -77,8 +77,8 @@ pub fn put_all_pages(
 
 // The first and the last call.
 fn calls_of(text: &str) -> Option<(u64, u64)> {
-    let (first, last) = row_of(text)?;
-    Some((number_of(first)?, number_of(last)?))
+    let (first, last) = named_row(text)?;
+    Some((number_in(first)?, number_in(last)?))
 }
 
 // Puts the answers after a crash in this call behind the others; `answer` holds one of them. False: there is no such
@@ -144,8 +144,8 @@ fn crashed(alloc: Global, disk: &MemDisk, text: &str) -> Result<Option<MemDisk>,
 
 // The number of a call, and a pick.
 fn crash_of(text: &str) -> Option<(u64, CrashPick)> {
-    let (call, pick) = row_of(text)?;
-    Some((number_of(call)?, pick_of(pick)?))
+    let (call, pick) = named_row(text)?;
+    Some((number_in(call)?, pick_of(pick)?))
 }
 
 fn crashed_in(
@@ -164,7 +164,7 @@ fn crashed_in(
 }
 
 fn pick_of(text: &str) -> Option<CrashPick> {
-    match row_of(text)? {
+    match named_row(text)? {
         ("old", _) => Some(CrashPick::Old),
         ("new", _) => Some(CrashPick::New),
         ("half", _) => Some(CrashPick::Half),

@@ -4,7 +4,7 @@ ghost use Rattle.std.specs.Prelude.{◌≤◌, IfSome};
 use crate::crashes::{go_on, put_all_pages, put_left, put_pages};
 use crate::stores::{commit_pages, formatted, opened, put_outcome, read_page};
 use doubles::MemDisk;
-use example_table::{bytes_of, number_of, row_of};
+use example_table::{bytes_of, named_row, number_in};
 use outside::{Disk, Failed};
 use std::alloc::{AllocError, Global};
 
@@ -107,7 +107,7 @@ fn write(disk: &mut MemDisk, text: &str, answer: &mut String) -> Result<bool, Al
 
 fn place_and_number_of(text: &str) -> Option<(u64, u64)> {
     let (at, field) = place_of(text)?;
-    Some((at, number_of(field)?))
+    Some((at, number_in(field)?))
 }
 
 // Reads up to eight bytes.
@@ -126,8 +126,8 @@ fn get(disk: &mut MemDisk, text: &str, answer: &mut String) -> Result<bool, Allo
 fn place_of(text: &str) -> Option<(u64, &str)>
     ensures { IfSome result (λ found. found.0 ≤ 1048576) }
 {
-    let (at, rest) = row_of(text)?;
-    let at = number_of(at)?;
+    let (at, rest) = named_row(text)?;
+    let at = number_in(at)?;
     if at > MAX_AT {
         return None;
     }

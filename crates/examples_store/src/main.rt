@@ -10,7 +10,7 @@ mod stores;
 
 use deeds::put_answer;
 use doubles::{Fails, MemDisk};
-use example_table::{is_told, number_of, refuse_row, row_of, sides_of};
+use example_table::{is_told, named_row, number_in, refuse_row, sides_of};
 use osm_base::{Bytes, Ids};
 use std::alloc::{AllocError, Global};
 use std::fs::{self, Files};
@@ -58,7 +58,7 @@ fn takes_all<'t, R: Print + Eprint + AllocGlobal>(
     table: &'t str,
 ) -> io::Result<bool> {
     for line in table.lines() {
-        if let Some((word, text)) = row_of(line) {
+        if let Some((word, text)) = named_row(line) {
             if !takes(rt, example, line, word, text)? {
                 return Ok(false);
             }
@@ -121,11 +121,11 @@ fn tell<R: Eprint>(
 /// Begins an example with an empty disk: behind its name stand the number from which on each call fails,
 /// where it is not 0, and the numbers of other calls that fail.
 fn begin<'t>(alloc: Global, example: &mut Example<'t>, text: &'t str) -> Result<(), AllocError> {
-    let (name, plan) = row_of(text).unwrap_or((text, ""));
+    let (name, plan) = named_row(text).unwrap_or((text, ""));
     let mut from = 0;
     let mut at = Vec::new(alloc);
     for (place, word) in plan.split_ascii_whitespace().enumerate() {
-        let call = number_of(word).unwrap_or(0);
+        let call = number_in(word).unwrap_or(0);
         if place == 0 {
             from = call;
         } else {

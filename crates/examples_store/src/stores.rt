@@ -1,7 +1,7 @@
 //! Deeds on a store. Each adds its answer, and answers whether its row is in its form.
 
 use doubles::MemDisk;
-use example_table::{number_of, row_of};
+use example_table::{named_row, number_in};
 use osm_base::{LimitNumbers, Limits};
 use page_journal::{Journal, PageSet, StoreFault, format, open};
 use std::alloc::{AllocError, Global};
@@ -59,12 +59,12 @@ pub fn commit_pages(
 
 // The number of home pages, and the limits.
 fn asked_of(text: &str) -> Option<(u64, Limits)> {
-    let (home, limit) = row_of(text)?;
-    let home = number_of(home)?;
+    let (home, limit) = named_row(text)?;
+    let home = number_in(home)?;
     if home > MAX_HOME {
         return None;
     }
-    Some((home, limits_of(number_of(limit).unwrap_or(MAX_HOME))))
+    Some((home, limits_of(number_in(limit).unwrap_or(MAX_HOME))))
 }
 
 fn committed(
@@ -128,8 +128,8 @@ pub fn read_page(disk: &mut MemDisk, text: &str, answer: &mut String) -> Result<
 
 // The number of a page, and whether it is read twice.
 fn page_of(text: &str) -> Option<(u64, bool)> {
-    let (page, again) = row_of(text)?;
-    Some((number_of(page)?, again == "again"))
+    let (page, again) = named_row(text)?;
+    Some((number_in(page)?, again == "again"))
 }
 
 fn read(disk: &mut MemDisk, page: u64, again: bool) -> Result<u64, StoreFault> {

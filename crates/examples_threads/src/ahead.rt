@@ -7,7 +7,7 @@ use change_pipe::{
     ChangeFiles, MAX_AHEAD, Parcel, ParcelBody, Pipe, Putter, Taker, make_pipe, read_ahead,
 };
 use doubles::{Fails, MemInputs};
-use example_table::{bytes_of, number_of, row_of};
+use example_table::{bytes_of, named_row, number_in};
 use object_fold::FileFault;
 use osm_base::{Bytes, FileList, Ids, Limits};
 use std::alloc::Global;
@@ -44,13 +44,13 @@ fn given_by(text: &str) -> Option<(usize, u32, u64, &str)>
     ensures few { IfSome result (λ (ahead, _, _, _). ahead ≤ MAX_AHEAD) }
     ensures workers { IfSome result (λ (_, workers, _, _). 0 < workers) }
 {
-    let (ahead, rest) = row_of(text)?;
-    let (workers, rest) = row_of(rest)?;
-    let (failing, files) = row_of(rest)?;
+    let (ahead, rest) = named_row(text)?;
+    let (workers, rest) = named_row(rest)?;
+    let (failing, files) = named_row(rest)?;
     Some((
         places_of(ahead)?,
         workers_of(workers)?,
-        number_of(failing)?,
+        number_in(failing)?,
         files,
     ))
 }
@@ -59,7 +59,7 @@ fn given_by(text: &str) -> Option<(usize, u32, u64, &str)>
 fn workers_of(word: &str) -> Option<u32>
     ensures some { IfSome result (λ workers. 0 < workers) }
 {
-    let workers = u32::try_from(number_of(word)?).ok()?;
+    let workers = u32::try_from(number_in(word)?).ok()?;
     if workers > 0 { Some(workers) } else { None }
 }
 
@@ -68,7 +68,7 @@ fn places_of(word: &str) -> Option<usize>
     ensures some { IfSome result (λ ahead. 1 ≤ ahead) }
     ensures few { IfSome result (λ ahead. ahead ≤ MAX_AHEAD) }
 {
-    let ahead = usize::try_from(number_of(word)?).ok()?;
+    let ahead = usize::try_from(number_in(word)?).ok()?;
     if 1 <= ahead && ahead <= MAX_AHEAD {
         Some(ahead)
     } else {
@@ -125,7 +125,7 @@ fn push_parcels(parcels: &[Parcel], out: &mut String) -> Result<(), Refusal> {
 /// A row `AHEAD STEP..`: what the steps answer that one thread makes with both ends of a pipe. A parcel has the number of its step, from 0.
 /// Steps are `put`, `take`, and, where they wait, `wait` and `get`; `stop`; `begin` and `begun`.
 pub fn pipe<R: Wait>(rt: &R, alloc: Global, given: &str, out: &mut String) -> Result<(), Refusal> {
-    let Some((ahead, steps)) = row_of(given) else {
+    let Some((ahead, steps)) = named_row(given) else {
         return Err(Refusal::NoRow);
     };
     let Some(ahead) = places_of(ahead) else {

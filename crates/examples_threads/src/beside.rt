@@ -3,7 +3,7 @@
 use crate::built::{numbers_of, rows_by};
 use crate::pending::nodes_to;
 use crate::refusal::Refusal;
-use example_table::{number_of, row_of};
+use example_table::{named_row, number_in};
 use object_fold::Objects;
 use osm_base::PendingSet;
 use outside::{Gate, GatePlace};
@@ -124,9 +124,9 @@ pub fn held<R: Threads + Sync>(
 
 /// Three numbers.
 fn held_by(text: &str) -> Option<(u64, u64, u64)> {
-    let (workers, rest) = row_of(text)?;
+    let (workers, rest) = named_row(text)?;
     let (tickets, turns) = numbers_of(rest)?;
-    Some((number_of(workers)?, tickets, turns))
+    Some((number_in(workers)?, tickets, turns))
 }
 
 /// Builds the rows of no object behind a gate.

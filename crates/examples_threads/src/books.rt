@@ -2,7 +2,7 @@
 ghost use Rattle.std.specs.Prelude.{◌≡◌, OnOk};
 
 use crate::refusal::Refusal;
-use example_table::{number_of, row_of};
+use example_table::{named_row, number_in};
 use pending_book::{Book, Seat};
 use std::alloc::Global;
 
@@ -23,14 +23,14 @@ pub fn whole(alloc: Global, given: &str, out: &mut String) -> Result<(), Refusal
 
 /// The numbers of a row.
 fn given_by(text: &str) -> Option<(u32, u32, u32)> {
-    let (tickets, rest) = row_of(text)?;
-    let (share, draws) = row_of(rest)?;
+    let (tickets, rest) = named_row(text)?;
+    let (share, draws) = named_row(rest)?;
     Some((few_of(tickets)?, few_of(share)?, few_of(draws)?))
 }
 
 /// A number that is not too great.
 fn few_of(word: &str) -> Option<u32> {
-    u32::try_from(number_of(word)?).ok()
+    u32::try_from(number_in(word)?).ok()
 }
 
 /// A seat with all shares draws so often, the last time in vain. Its tickets are added to a text. The draws.

@@ -4,7 +4,7 @@ ghost use Rattle.geom_workers.specs.Keys.{keys_of};
 
 use crate::pending::{nodes_to, objects_of, pending_of};
 use crate::refusal::Refusal;
-use example_table::{number_of, row_of};
+use example_table::{named_row, number_in};
 use geom_workers::{Hands, MAX_KEYS, Part, Workers, build_all, key_count, work};
 use object_fold::Objects;
 use osm_base::{OutOfMemory, PendingSet, RowLists, TableRow};
@@ -103,9 +103,9 @@ pub fn built<R: Threads + Sync>(
 
 /// The number of workers, the keys and the files of a row.
 fn given_by(text: &str) -> Option<(u64, &str, &str)> {
-    let (workers, rest) = row_of(text)?;
-    let (keys, files) = row_of(rest)?;
-    Some((number_of(workers)?, keys, files))
+    let (workers, rest) = named_row(text)?;
+    let (keys, files) = named_row(rest)?;
+    Some((number_in(workers)?, keys, files))
 }
 
 /// Adds the rows that some workers build.
@@ -137,8 +137,8 @@ pub fn many<R: Threads + Sync>(
 
 /// Two numbers.
 pub fn numbers_of(text: &str) -> Option<(u64, u64)> {
-    let (first, second) = row_of(text)?;
-    Some((number_of(first)?, number_of(second)?))
+    let (first, second) = named_row(text)?;
+    Some((number_in(first)?, number_in(second)?))
 }
 
 /// Adds how many lists some workers build where there is no object.
@@ -190,7 +190,7 @@ fn push_readable(text: &str, out: &mut String) -> Result<(), Refusal> {
 
 /// A row `KEYS FILE..`: the rows of one worker, and its tickets.
 pub fn worked(alloc: Global, given: &str, out: &mut String) -> Result<(), Refusal> {
-    let Some((keys, files)) = row_of(given) else {
+    let Some((keys, files)) = named_row(given) else {
         return Err(Refusal::NoRow);
     };
     let pending = pending_of(alloc, keys)?;

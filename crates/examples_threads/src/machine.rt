@@ -2,7 +2,7 @@
 ghost use Rattle.std.specs.Prelude.{◌≡◌, ◌<◌, IfSome};
 
 use crate::refusal::Refusal;
-use example_table::{number_of, row_of};
+use example_table::{named_row, number_in};
 use pending_book::{Book, Seat};
 use stage_core::{CoreState, Event};
 use std::alloc::Global;
@@ -19,9 +19,9 @@ pub fn steps(alloc: Global, given: &str, out: &mut String) -> Result<(), Refusal
 
 /// The numbers of a row, and its steps.
 fn given_by(text: &str) -> Option<(u32, u32, u32, &str)> {
-    let (tickets, rest) = row_of(text)?;
-    let (workers, rest) = row_of(rest)?;
-    let (readers, steps) = row_of(rest)?;
+    let (tickets, rest) = named_row(text)?;
+    let (workers, rest) = named_row(rest)?;
+    let (readers, steps) = named_row(rest)?;
     Some((small(tickets)?, small(workers)?, small(readers)?, steps))
 }
 
@@ -40,7 +40,7 @@ fn take_all(state: &mut CoreState, words: &str, out: &mut String) -> Result<(), 
 fn small(word: &str) -> Option<u32>
     ensures small { IfSome result (λ number. number < 100) }
 {
-    let number = number_of(word)?;
+    let number = number_in(word)?;
     if number < 100 {
         Some(number as u32)
     } else {

@@ -6,7 +6,7 @@ ghost use Rattle.osm_base.specs.values.Key.{IsId};
 
 use crate::refusal::Refusal;
 use doubles::{Fails, MemInputs};
-use example_table::{bytes_of, number_of};
+use example_table::{bytes_of, number_in};
 use object_fold::{Change, Objects, RisingIds, read_file};
 use osm_base::{Bytes, FileList, Ids, Limits, MAX_ID, PendingSet, TryCopy};
 use std::alloc::Global;
@@ -86,11 +86,11 @@ fn push_ids(
     relations: &mut Vec<u64>,
 ) -> Result<(), Refusal> {
     for word in words.split(',') {
-        if let Some(id) = word.strip_prefix('n').and_then(number_of) {
+        if let Some(id) = word.strip_prefix('n').and_then(number_in) {
             nodes.push(id)?;
-        } else if let Some(id) = word.strip_prefix('w').and_then(number_of) {
+        } else if let Some(id) = word.strip_prefix('w').and_then(number_in) {
             ways.push(id)?;
-        } else if let Some(id) = word.strip_prefix('r').and_then(number_of) {
+        } else if let Some(id) = word.strip_prefix('r').and_then(number_in) {
             relations.push(id)?;
         }
     }

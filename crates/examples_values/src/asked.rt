@@ -6,7 +6,7 @@ use crate::objects::push_numbers;
 use back_index::Indexed;
 use bucket_store::{Buckets, open};
 use doubles::MemDisk;
-use example_table::number_of;
+use example_table::number_in;
 use osm_base::{Back, Limits, OutOfMemory};
 use page_journal::StoreFault;
 use std::alloc::{AllocError, Global};
@@ -67,7 +67,7 @@ fn push_ways<B: Back<Refusal = StoreFault>>(
     requires { B.spent back.old ≡ false }
 {
     for node in nodes.split(' ') {
-        match back.ways_of_node(number_of(node).unwrap_or(0)) {
+        match back.ways_of_node(number_in(node).unwrap_or(0)) {
             Ok(ids) => push_ids(answers, ids.as_slice())?,
             Err(fault) => return push_fault(answers, &fault),
         }

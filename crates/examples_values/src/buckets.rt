@@ -12,7 +12,7 @@ mod transaction;
 use crate::buckets::deeds::push_blank;
 use crate::buckets::transaction::transaction;
 use doubles::{Fails, MemDisk};
-use example_table::{is_told, number_of, refuse_row, row_of, sides_of};
+use example_table::{is_told, named_row, number_in, refuse_row, sides_of};
 use osm_base::{Bytes, Ids};
 use outside::Disk;
 use page_journal::format;
@@ -61,7 +61,7 @@ fn step<'t, R: Print + Eprint + AllocGlobal>(
     example: &mut Example<'t>,
     line: &'t str,
 ) -> io::Result<bool> {
-    let Some((word, text)) = row_of(line) else {
+    let Some((word, text)) = named_row(line) else {
         return Ok(true);
     };
     if word == "store" {
@@ -125,11 +125,11 @@ fn formatted(alloc: Global, disk: &mut MemDisk) -> Result<String, AllocError> {
 /// Commits two deeds by turns, so many in all, and tells how many home pages there are behind the first two and the
 /// last; or what a commit answers that is refused.
 fn turns(alloc: Global, disk: &mut MemDisk, text: &str) -> Result<Option<String>, AllocError> {
-    let (count, deeds) = row_of(text).unwrap_or((text, ""));
+    let (count, deeds) = named_row(text).unwrap_or((text, ""));
     let Some((odd, even)) = deeds.split_once(" | ") else {
         return Ok(None);
     };
-    let count = number_of(count).unwrap_or(0);
+    let count = number_in(count).unwrap_or(0);
     let mut told = String::new(alloc);
     for turn in 0..count {
         let deed = if turn % 2 == 0 { odd } else { even };
@@ -167,10 +167,10 @@ fn overwritten(
     disk: &mut MemDisk,
     text: &str,
 ) -> Result<Option<String>, AllocError> {
-    let (place, fields) = row_of(text).unwrap_or((text, ""));
+    let (place, fields) = named_row(text).unwrap_or((text, ""));
     let word = match bytes_of(alloc, fields)? {
         None => None,
-        Some(bytes) => written(disk, number_of(place).unwrap_or(MOST), &bytes),
+        Some(bytes) => written(disk, number_in(place).unwrap_or(MOST), &bytes),
     };
     match word {
         None => Ok(None),
@@ -231,9 +231,9 @@ fn home_pages(bytes: &[u8]) -> Option<u64> {
 
 /// Begins an example with an empty disk: behind its name stands the number from which on each call fails.
 fn begin<'t>(alloc: Global, example: &mut Example<'t>, text: &'t str) {
-    let (name, from) = row_of(text).unwrap_or((text, ""));
+    let (name, from) = named_row(text).unwrap_or((text, ""));
     example.name = name;
-    example.disk = empty(alloc, number_of(from).unwrap_or(0));
+    example.disk = empty(alloc, number_in(from).unwrap_or(0));
 }
 
 /// A disk without bytes, on which each call from this one on fails, where it is not 0.

@@ -9,7 +9,7 @@ use crate::typed::{on_node, on_object, on_rows, rows_removed};
 use back_index::listers;
 use bucket_store::{Buckets, open};
 use doubles::{Fails, MemDisk};
-use example_table::{number_of, row_of};
+use example_table::{named_row, number_in};
 use osm_base::{Bytes, Key, Kind, Limits, MAX_ID, OutOfMemory};
 use page_journal::{StoreFault, format};
 use std::alloc::{AllocError, Global};
@@ -108,7 +108,7 @@ fn answer_of(
     requires ready { IsReady buckets.old }
     ensures { OnOk result (has_refused buckets.new ≡ false) }
 {
-    let (word, text) = row_of(call).unwrap_or((call, ""));
+    let (word, text) = named_row(call).unwrap_or((call, ""));
     match word {
         "commit" => match buckets.commit() {
             Ok(()) => ok(alloc),
@@ -195,17 +195,17 @@ pub fn ok(alloc: Global) -> Result<Option<String>, StoreFault> {
 
 // A map, a key of it, and the text behind them. `None`: there is no such map.
 fn place_of(text: &str) -> Option<(StoreMap, u64, &str)> {
-    let (number, behind) = row_of(text)?;
-    let (key, rest) = row_of(behind)?;
-    let map = StoreMap::with_number(number_of(number)?)?;
-    Some((map, number_of(key)?, rest))
+    let (number, behind) = named_row(text)?;
+    let (key, rest) = named_row(behind)?;
+    let map = StoreMap::with_number(number_in(number)?)?;
+    Some((map, number_in(key)?, rest))
 }
 
 // A kind's letter and an id, and the text behind them.
 fn key_of(text: &str) -> Option<(Key, &str)> {
-    let (letter, behind) = row_of(text)?;
-    let (id, rest) = row_of(behind)?;
-    let id = number_of(id)?;
+    let (letter, behind) = named_row(text)?;
+    let (id, rest) = named_row(behind)?;
+    let id = number_in(id)?;
     if id == 0 || id > MAX_ID {
         return None;
     }

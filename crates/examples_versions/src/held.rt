@@ -3,7 +3,7 @@ use crate::notation::{queries_of, style, tables_of};
 use crate::refusal::Refusal;
 use crate::texts::{push_answer, push_shut};
 use doubles::Fails;
-use example_table::{number_of, row_of};
+use example_table::{named_row, number_in};
 use map_query::Queries;
 use osm_base::Ids;
 use outside::{Gate, GatePlace, OpenGate};
@@ -75,12 +75,12 @@ fn push_passes(gate: &Counts, out: &mut String) -> Result<(), Refusal> {
 
 /// What a row gives.
 fn given_by(text: &str) -> Option<Given<'_>> {
-    let (version, rest) = row_of(text)?;
-    let (call, rest) = row_of(rest)?;
+    let (version, rest) = named_row(text)?;
+    let (call, rest) = named_row(rest)?;
     let (queries, rows) = rest.split_once('|')?;
     Some(Given {
-        version: number_of(version)?,
-        call: number_of(call)?,
+        version: number_in(version)?,
+        call: number_in(call)?,
         queries,
         rows,
     })

@@ -15,7 +15,7 @@ mod steps;
 mod texts;
 mod watch;
 
-use example_table::{is_told, refuse_row, row_of, sides_of};
+use example_table::{is_told, named_row, refuse_row, sides_of};
 use refusal::Refusal;
 use std::process::ExitCode;
 use std::sync::Wait;
@@ -37,10 +37,10 @@ fn passes<R: Threads + Wait + Sync + Print + Eprint + AllocGlobal>(
     rt: &R,
     line: &str,
 ) -> io::Result<bool> {
-    let Some((kind, text)) = row_of(line) else {
+    let Some((kind, text)) = named_row(line) else {
         return Ok(true);
     };
-    let (Some((name, given)), Some((_, wanted))) = (row_of(text), sides_of(text)) else {
+    let (Some((name, given)), Some((_, wanted))) = (named_row(text), sides_of(text)) else {
         return refuse(rt, line);
     };
     let given = given.split("=>").next().unwrap_or("").trim();

@@ -1,6 +1,6 @@
 //! The style of the examples, and rows, queries and boxes as words write them.
 use crate::refusal::Refusal;
-use example_table::{bytes_of, number_of, signed_of};
+use example_table::{bytes_of, number_in, signed_of};
 use map_query::{Queries, QueryFault, read_queries};
 use osm_base::{
     Cell, Cells, GeoBox, Geometry, Items, Key, Kind, MAX_ID, MAX_LAT, MAX_LON, Place, Places, Row,
@@ -84,7 +84,7 @@ fn change_of(alloc: Global, word: &str) -> Result<RowChange, Refusal> {
     let row = if row == "-" {
         None
     } else {
-        Some(row_of(alloc, row)?)
+        Some(row_in(alloc, row)?)
     };
     Ok(RowChange { table, key, row })
 }
@@ -94,7 +94,7 @@ pub fn spot_of(word: &str) -> Option<(Spot, &str)> {
     let (table, rest) = word.split_once(':')?;
     let (id, rest) = rest.split_once(':')?;
     let table = table.parse::<u32>().ok()?;
-    let id = number_of(id)?;
+    let id = number_in(id)?;
     if id == 0 || id > MAX_ID {
         return None;
     }
@@ -103,7 +103,7 @@ pub fn spot_of(word: &str) -> Option<(Spot, &str)> {
 }
 
 /// The row of a word `NUMBER:PLACE` or `NUMBER:PLACE;PLACE..`.
-fn row_of(alloc: Global, word: &str) -> Result<Row, Refusal> {
+fn row_in(alloc: Global, word: &str) -> Result<Row, Refusal> {
     let Some((number, places)) = word.split_once(':') else {
         return Err(Refusal::NoRow);
     };

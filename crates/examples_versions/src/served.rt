@@ -4,7 +4,7 @@ use crate::plan::{Plan, changes_to, first_tables};
 use crate::refusal::Refusal;
 use crate::shows::Shows;
 use crate::watch::Watch;
-use example_table::{number_of, row_of};
+use example_table::{named_row, number_in};
 use osm_base::TryCopy;
 use std::alloc::Global;
 use std::sync::Wait;
@@ -39,12 +39,12 @@ pub fn served<R: Threads + Wait + Sync>(
 
 /// The numbers of a row.
 fn given_by(text: &str) -> Option<(u32, u64, u64)> {
-    let (readers, rest) = row_of(text)?;
-    let (changes, turns) = row_of(rest)?;
+    let (readers, rest) = named_row(text)?;
+    let (changes, turns) = named_row(rest)?;
     Some((
         readers.parse::<u32>().ok()?,
-        number_of(changes)?,
-        number_of(turns)?,
+        number_in(changes)?,
+        number_in(turns)?,
     ))
 }
 

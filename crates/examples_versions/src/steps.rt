@@ -3,7 +3,7 @@ use crate::notation::{changes_of, queries_of, style, tables_of};
 use crate::refusal::Refusal;
 use crate::shows::Shows;
 use crate::stage::{Stage, count};
-use example_table::row_of;
+use example_table::named_row;
 use osm_base::TryCopy;
 use std::alloc::Global;
 use std::sync::Wait;
@@ -49,7 +49,7 @@ fn take_steps<R: Wait>(
     out: &mut String,
 ) -> Result<(), Refusal> {
     for step in steps.split('|') {
-        if let Some((word, rest)) = row_of(step) {
+        if let Some((word, rest)) = named_row(step) {
             take_step(rt, alloc, style, stage, word, rest, out)?;
         }
     }

@@ -16,7 +16,7 @@ use Rattle.lanes_geo.specs.Box.{meets}
 use Rattle.grid_index.specs.declared.marks.Mark.{Mark}
 use Rattle.grid_index.specs.Cells.{cells_of, column, from_edge, is_candidate, is_wide, level_of, part, row, share}
 use Rattle.grid_index.specs.Grid.{BoxMap, is_wanted, wanted}
-use Rattle.grid_index.specs.Marks.{IsMarked, has, mark_of, number_of}
+use Rattle.grid_index.specs.Marks.{IsMarked, has, mark_of, mark_number}
 use Rattle.grid_index.specs.Search.{CoversLevel, IsDone, IsPart, passes}
 use Rattle.grid_index.proofs.Levels.{level_of-small, reached}
 use Rattle.grid_index.proofs.Marked.{AreMarked}
@@ -68,8 +68,8 @@ near_of false asked box h = h
 
 -- ---- all is found
 
-number_mono : (level column one other : ℕ) → one ≤ other → number_of level column one ≤ number_of level column other
-unfolding number_of
+number_mono : (level column one other : ℕ) → one ≤ other → mark_number level column one ≤ mark_number level column other
+unfolding mark_number
 number_mono level column one other h = omega (arith, h)
 
 covered_box : (exact : Bool) (asked : GeoBox) (marks : List Mark) (W found : BoxMap) (spot : SpotOf) (box : GeoBox)

@@ -24,7 +24,7 @@ use Rattle.grid_index.specs.declared.cells.Cells.{Cells}
 use Rattle.grid_index.specs.declared.marks.Mark.{Mark}
 use Rattle.grid_index.specs.Cells as cell
 use Rattle.grid_index.specs.Grid.{BoxMap, is_wanted, wanted}
-use Rattle.grid_index.specs.Marks.{has, mark_cmp, number_of}
+use Rattle.grid_index.specs.Marks.{has, mark_cmp, mark_number}
 use Rattle.grid_index.specs.Search.{CoversParts, Grows, IsDone, IsPart, spot_of, with_passed}
 use Rattle.grid_index.proofs.Marked.{same_mark, same_spot, spot_itself}
 use Rattle.grid_index.proofs.Order.{tree_cmp, tree_cmp-mark_cmp}
@@ -201,8 +201,8 @@ pub record Levelled (marks : List Mark) (table : ℕ) (W old new : BoxMap) (leve
   pub part : IsPart W new
   pub keeps : (spot : SpotOf) → IsDone W old spot → IsDone W new spot
   pub covers : (column : ℕ) → cell.part level cells.west ≤ column → column < next
-      → CoversParts marks table W new (number_of level column (cell.part level cells.south))
-      (number_of level column (cell.part level cells.north))
+      → CoversParts marks table W new (mark_number level column (cell.part level cells.south))
+      (mark_number level column (cell.part level cells.north))
 
 pub none_levelled : (marks : List Mark) (table : ℕ) (W found : BoxMap) (level : ℕ) (cells : Cells) (next : ℕ)
     → next ≡ cell.part level cells.west → IsPart W found
@@ -212,7 +212,7 @@ none_levelled marks table W found level cells next e h =
 
 pub one_levelled : (marks : List Mark) (table : ℕ) (W old mid new : BoxMap) (level : ℕ) (cells : Cells) (next first last : ℕ)
     → Levelled marks table W old mid level cells next
-    → first ≡ number_of level next (cell.part level cells.south) → last ≡ number_of level next (cell.part level cells.north)
+    → first ≡ mark_number level next (cell.part level cells.south) → last ≡ mark_number level next (cell.part level cells.north)
     → Grows W mid new → CoversParts marks table W new first last
     → Levelled marks table W old new level cells (next + 1)
 one_levelled marks table W old mid new level cells next first last levelled e f grows covered = record {
@@ -223,7 +223,7 @@ one_levelled marks table W old mid new level cells next first last levelled e f 
     | inr later ↦
         (let here : column ≡ next = omega (arith, below, later) in
         covered mark there same
-        (subst (λ n. n ≤ mark.part) (ap (λ column. number_of level column (cell.part level cells.south)) here ∙ sym e) a)
-        (subst (λ n. mark.part ≤ n) (ap (λ column. number_of level column (cell.part level cells.north)) here ∙ sym f) b))
+        (subst (λ n. n ≤ mark.part) (ap (λ column. mark_number level column (cell.part level cells.south)) here ∙ sym e) a)
+        (subst (λ n. mark.part ≤ n) (ap (λ column. mark_number level column (cell.part level cells.north)) here ∙ sym f) b))
   ];
 }

@@ -10,12 +10,12 @@ use Rattle.grid_index.specs.declared.marks.Mark.{Mark}
 use Rattle.grid_index.specs.Cells.{cells_of, level_of, part}
 
 -- the number of a part, from 1: the parts of a level are numbered column by column
-unfoldable pub number_of : (level column row : ℕ) → ℕ
-number_of level column row = ((level * 1024 + column) * 1024 + row) + 1
+unfoldable pub mark_number : (level column row : ℕ) → ℕ
+mark_number level column row = ((level * 1024 + column) * 1024 + row) + 1
 
 -- the part that holds a box
 abbrev pub part_of : GeoBox → ℕ
-part_of box = number_of (level_of (cells_of box)) (part (level_of (cells_of box)) (cells_of box).west)
+part_of box = mark_number (level_of (cells_of box)) (part (level_of (cells_of box)) (cells_of box).west)
     (part (level_of (cells_of box)) (cells_of box).south)
 
 -- the mark of the box at a spot

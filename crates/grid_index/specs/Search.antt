@@ -8,7 +8,7 @@ use Rattle.grid_index.specs.declared.cells.Cells.{Cells}
 use Rattle.grid_index.specs.declared.marks.Mark.{Mark}
 use Rattle.grid_index.specs.Cells.{is_candidate, part}
 use Rattle.grid_index.specs.Grid.{BoxMap}
-use Rattle.grid_index.specs.Marks.{has, number_of}
+use Rattle.grid_index.specs.Marks.{has, mark_number}
 
 -- the test of a search: that a box meets the asked one, or may be near it
 abbrev pub passes : (exact : Bool) → (asked box : GeoBox) → Bool
@@ -46,5 +46,5 @@ CoversParts marks table wanted found first last =
 abbrev pub CoversLevel : List Mark → (table : ℕ) → (wanted found : BoxMap) → (level : ℕ) → Cells → Type 0
 CoversLevel marks table wanted found level cells =
     (column : ℕ) → part level cells.west ≤ column → column ≤ part level cells.east
-    → CoversParts marks table wanted found (number_of level column (part level cells.south))
-    (number_of level column (part level cells.north))
+    → CoversParts marks table wanted found (mark_number level column (part level cells.south))
+    (mark_number level column (part level cells.north))

@@ -17,12 +17,12 @@ pub struct Mark {
 }
 
 /// The number of a part, from 1: the parts of a level are numbered column by column.
-#[tactic(auto, unfolding(crate::specs::Marks::number_of))]
-pub(crate) fn number_of(level: u32, column: u32, row: u32) -> u32
+#[tactic(auto, unfolding(crate::specs::Marks::mark_number))]
+pub(crate) fn mark_number(level: u32, column: u32, row: u32) -> u32
     requires level { level ≤ LAST_LEVEL }
     requires column { column < 1024 }
     requires row { row < 1024 }
-    ensures number { result ≡ spec.number_of level column row }
+    ensures number { result ≡ spec.mark_number level column row }
     ensures least { 1 ≤ result }
     ensures most { result ≤ 12582912 }
 {
@@ -37,7 +37,7 @@ fn part_of(around: GeoBox) -> u32
     let level = level_of(cells);
     let column = part(level, cells.west);
     let row = part(level, cells.south);
-    number_of(level, column, row)
+    mark_number(level, column, row)
 }
 
 /// The mark of the box at a spot.

@@ -11,7 +11,7 @@ ghost use Rattle.grid_index.specs.Search.{CoversLevel, CoversParts, Grows, IsPar
 
 use crate::cells::{Cells, LAST_LEVEL, cells_of, is_wide, part, share};
 use crate::grid::Grid;
-use crate::marks::{Mark, number_of};
+use crate::marks::{Mark, mark_number};
 use crate::tree::{box_at, set_box};
 use lanes_geo::is_met;
 use osm_base::{GeoBox, Items, Key, KeyList, Kind, MAX_ID, OutOfMemory, Spot};
@@ -114,8 +114,8 @@ fn add_level(
     let south = part(level, cells.south);
     let north = part(level, cells.north);
     for column in part(level, cells.west)..part(level, cells.east) + 1 {
-        let first = number_of(level, column, south);
-        let last = number_of(level, column, north);
+        let first = mark_number(level, column, south);
+        let last = mark_number(level, column, north);
         add_parts(search, found, first, last)?;
     }
     Ok(())

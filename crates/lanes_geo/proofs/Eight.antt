@@ -76,9 +76,9 @@ compared place (suc n) (p ∷ ps) e here others =
     λ i. lon i ∷ (lat i ∷ more i)
 
 -- both tests, or one of them
-abbrev pub joined : Bool → Bool → Bool → Bool
-joined true p q = p && q
-joined false p q = p || q
+abbrev pub joined_bits : Bool → Bool → Bool → Bool
+joined_bits true p q = p && q
+joined_bits false p q = p || q
 
 one_and : (p q : Bool) → bit_and (full p) (full q) ≡ full (p && q)
 one_and true true = refl
@@ -92,7 +92,7 @@ one_or true false = refl
 one_or false true = refl
 one_or false false = refl
 
-and_lanes : (xs ys : List Bool) → zip2 (λ a b. bit_and a b) (map full xs) (map full ys) ≡ map full (zip2 (joined true) xs ys)
+and_lanes : (xs ys : List Bool) → zip2 (λ a b. bit_and a b) (map full xs) (map full ys) ≡ map full (zip2 (joined_bits true) xs ys)
 and_lanes [] ys = refl
 and_lanes (x ∷ xs) [] = refl
 and_lanes (x ∷ xs) (y ∷ ys) =
@@ -100,7 +100,7 @@ and_lanes (x ∷ xs) (y ∷ ys) =
     let more = and_lanes xs ys in
     λ i. one i ∷ more i
 
-or_lanes : (xs ys : List Bool) → zip2 (λ a b. bit_or a b) (map full xs) (map full ys) ≡ map full (zip2 (joined false) xs ys)
+or_lanes : (xs ys : List Bool) → zip2 (λ a b. bit_or a b) (map full xs) (map full ys) ≡ map full (zip2 (joined_bits false) xs ys)
 or_lanes [] ys = refl
 or_lanes (x ∷ xs) [] = refl
 or_lanes (x ∷ xs) (y ∷ ys) =
@@ -121,7 +121,7 @@ tops (x ∷ xs) =
 
 -- four lists of tests, joined
 abbrev pub four : Bool → List Bool → List Bool → List Bool → List Bool → List Bool
-four side ps qs rs ss = zip2 (joined side) (zip2 (joined side) (zip2 (joined side) ps qs) rs) ss
+four side ps qs rs ss = zip2 (joined_bits side) (zip2 (joined_bits side) (zip2 (joined_bits side) ps qs) rs) ss
 
 -- a mask with each second bit, or with none
 abbrev pub second_bits : Bool → ℕ → ℕ
@@ -139,7 +139,7 @@ next_bits false false true n bits f e = absurd (omega arith)
 next_bits false false false zero bits f e = (refl, omega arith)
 next_bits false false false (suc n) bits f e = (refl, omega arith)
 
-all_four : (side p q r s : Bool) → joined side (joined side (joined side p q) r) s ≡ side
+all_four : (side p q r s : Bool) → joined_bits side (joined_bits side (joined_bits side p q) r) s ≡ side
     → (p ≡ side) × ((q ≡ side) × ((r ≡ side) × (s ≡ side)))
 all_four true true true true true e = (refl, (refl, (refl, refl)))
 all_four true true true true false e = absurd cc
@@ -152,7 +152,7 @@ all_four false false false true s e = absurd cc
 all_four false false true r s e = absurd cc
 all_four false true q r s e = absurd cc
 
-no_lon : (side : Bool) → joined side (joined side (joined side false false) false) false ≡ false
+no_lon : (side : Bool) → joined_bits side (joined_bits side (joined_bits side false false) false) false ≡ false
 no_lon true = refl
 no_lon false = refl
 
@@ -187,9 +187,9 @@ length-sides place (suc n) (p ∷ ps) e = let more = length-sides place n ps (om
 length-four : (side : Bool) (ps qs rs ss : List Bool) → length ps ≡ 16 → length qs ≡ 16 → length rs ≡ 16 → length ss ≡ 16
     → length (four side ps qs rs ss) ≡ 16
 length-four side ps qs rs ss ep eq er es =
-    let two = length-zip2 (joined side) ps qs (ep ∙ sym eq) ∙ ep in
-    let three = length-zip2 (joined side) (zip2 (joined side) ps qs) rs (two ∙ sym er) ∙ two in
-    length-zip2 (joined side) (zip2 (joined side) (zip2 (joined side) ps qs) rs) ss (three ∙ sym es) ∙ three
+    let two = length-zip2 (joined_bits side) ps qs (ep ∙ sym eq) ∙ ep in
+    let three = length-zip2 (joined_bits side) (zip2 (joined_bits side) ps qs) rs (two ∙ sym er) ∙ two in
+    length-zip2 (joined_bits side) (zip2 (joined_bits side) (zip2 (joined_bits side) ps qs) rs) ss (three ∙ sym es) ∙ three
 
 -- four vectors of coordinates above the bounds of a place
 abbrev pub above_in : List ℤ → List ℤ → List ℕ
@@ -221,7 +221,7 @@ from_bits side place bounds ks bs cs ds ps qs rs ss tests a b c d is e =
 
 -- four vectors whose lanes, put together by a bit operation, are all on one side
 module _ (side : Bool) (op : ℕ → ℕ → ℕ) (lanes : (xs ys : List Bool)
-    → zip2 (λ x y. op x y) (map full xs) (map full ys) ≡ map full (zip2 (joined side) xs ys)) where
+    → zip2 (λ x y. op x y) (map full xs) (map full ys) ≡ map full (zip2 (joined_bits side) xs ys)) where
   all_side : (place : PlaceOf) (bounds ks bs cs ds : List ℤ) (ps qs rs ss : List PlaceOf) → IsPlace place → bounds ≡ bounds_of place 8
       → EightPlaces ks ps
       → EightPlaces bs qs → EightPlaces cs rs → EightPlaces ds ss
@@ -241,8 +241,8 @@ module _ (side : Bool) (op : ℕ → ℕ → ℕ) (lanes : (xs ys : List Bool)
         eight_lanes place bounds cs rs here e c,
         eight_lanes place bounds ds ss here e d,
         lanes xs ys,
-        lanes (zip2 (joined side) xs ys) zs,
-        lanes (zip2 (joined side) (zip2 (joined side) xs ys) zs) us,
+        lanes (zip2 (joined_bits side) xs ys) zs,
+        lanes (zip2 (joined_bits side) (zip2 (joined_bits side) xs ys) zs) us,
       ) (tops (four side xs ys zs us)))
       bits
 

@@ -1,7 +1,7 @@
 //! Pieces joined to lines at their ends.
 ghost use Rattle.std.specs.Prelude.{◌≡◌, ◌<◌, length, IfOk};
 ghost use Rattle.piece_ends.specs.Pieces.{ArePieces};
-ghost use Rattle.piece_ends.specs.Joins.{joined, line_begun};
+ghost use Rattle.piece_ends.specs.Joins.{joined_lines, line_begun};
 
 use osm_base::{LineList, OutOfMemory, Places};
 use piece_ends::{UnusedPieces, extend, is_closed};
@@ -10,7 +10,7 @@ use std::alloc::Global;
 /// The lines that pieces make where each is joined to the lowest one that fits.
 pub fn join_lines(alloc: Global, pieces: &LineList) -> Result<LineList, OutOfMemory>
     requires pieces { ArePieces pieces.now }
-    ensures joined { IfOk result (λ lines. lines ≡ joined pieces.now) }
+    ensures joined_lines { IfOk result (λ lines. lines ≡ joined_lines pieces.now) }
 {
     let mut unused = UnusedPieces::new(alloc, pieces)?;
     let mut lines = LineList::new(alloc);

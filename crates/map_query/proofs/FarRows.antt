@@ -10,7 +10,7 @@ use Rattle.osm_base.specs.declared.values.place.GeoBox.{GeoBox}
 use Rattle.osm_base.specs.declared.values.row.NumberedRow.{NumberedRow}
 use Rattle.lanes_geo.specs.Box.{meets}
 use Rattle.style_read.specs.Style.{StyleOf}
-use Rattle.map_query.specs.Answer.{around, is_in, joined, near, numbered}
+use Rattle.map_query.specs.Answer.{around, is_in, joined_boxes, near, numbered}
 use Rattle.map_query.specs.Ordered.{AreBlocks, around_rows, met, seen}
 use Rattle.map_query.specs.declared.boxed.BoxedRow.{BoxedRow}
 
@@ -58,26 +58,26 @@ far_other asked one other far =
     (low_other one.west other.west asked.east) (high_other one.east other.east asked.west)
     (low_other one.south other.south asked.north) (high_other one.north other.north asked.south) far
 
-joined_far : (asked : GeoBox) (one other : Option GeoBox) → near asked (joined one other) ≡ false
+joined_far : (asked : GeoBox) (one other : Option GeoBox) → near asked (joined_boxes one other) ≡ false
     → (near asked one ≡ false) × (near asked other ≡ false)
 joined_far asked None other far = (refl, far)
 joined_far asked (Some one) None far = (far, refl)
 joined_far asked (Some one) (Some other) far = (far_one asked one other far, far_other asked one other far)
 
 -- what is far from the box around many is far from that which it began with
-fold_far : (asked : GeoBox) (start : Option GeoBox) (boxes : List (Option GeoBox)) → near asked (fold joined start boxes) ≡ false
+fold_far : (asked : GeoBox) (start : Option GeoBox) (boxes : List (Option GeoBox)) → near asked (fold joined_boxes start boxes) ≡ false
     → near asked start ≡ false
 fold_far asked start [] far = far
-fold_far asked start (box ∷ boxes) far = (joined_far asked start box (fold_far asked (joined start box) boxes far)).0
+fold_far asked start (box ∷ boxes) far = (joined_far asked start box (fold_far asked (joined_boxes start box) boxes far)).0
 
 none_in : (asked : GeoBox) (start : Option GeoBox) (rows : List BoxedRow)
-    → near asked (fold joined start (map (λ own. own.around) rows)) ≡ false
+    → near asked (fold joined_boxes start (map (λ own. own.around) rows)) ≡ false
     → filter (λ own. is_in asked own.1) (map seen rows) ≡ []
 none_in asked start [] far = refl
 none_in asked start (own ∷ rows) far =
-    let apart = fold_far asked (joined start own.around) (map (λ own. own.around) rows) far in
+    let apart = fold_far asked (joined_boxes start own.around) (map (λ own. own.around) rows) far in
     let out : is_in asked own.row.now ≡ false = ap (near asked) (sym own.boxed) ∙ (joined_far asked start own.around apart).1 in
-    rw out (none_in asked (joined start own.around) rows far)
+    rw out (none_in asked (joined_boxes start own.around) rows far)
 
 -- none of the rows of a block that is far is found
 pub none_met : (style : StyleOf) (table : ℕ) (asked : GeoBox) (rows : List BoxedRow) → near asked (around_rows rows) ≡ false

@@ -9,7 +9,7 @@ use Rattle.std.proofs.lemmas.Grind.{common_steps}
 use Rattle.osm_base.specs.declared.values.place.GeoBox.{GeoBox}
 use Rattle.osm_base.specs.values.Place.{PlaceOf}
 use Rattle.lanes_geo.specs.Box.{box_of}
-use Rattle.map_query.specs.Answer.{around, joined}
+use Rattle.map_query.specs.Answer.{around, joined_boxes}
 
 min_grouped : (a b c : ℤ) → int_min (int_min a b) c ≡ int_min a (int_min b c)
 min_grouped a b c = grind (arith, ints)
@@ -31,7 +31,7 @@ no_more : {A : Type 0} (xs : List A) → xs ++ [] ≡ xs
 no_more [] = refl
 no_more (x ∷ xs) = ap (λ ys. x ∷ ys) (no_more xs)
 
-pub box_of-append : (xs ys : List PlaceOf) → box_of (xs ++ ys) ≡ joined (box_of xs) (box_of ys)
+pub box_of-append : (xs ys : List PlaceOf) → box_of (xs ++ ys) ≡ joined_boxes (box_of xs) (box_of ys)
 box_of-append [] ys = refl
 box_of-append (x ∷ xs) [] = ap (λ places. box_of (x ∷ places)) (no_more xs)
 box_of-append (x ∷ xs) (y ∷ ys) = λ i. Some (record {
@@ -52,9 +52,9 @@ flat_map_append f (y ∷ ys) x = ap (λ rest. f y ++ rest) (flat_map_append f ys
 -- the box around those so far, and one more
 pub box_more : {A : Type 0} (f : A → List PlaceOf) (xs : List A) (i : ℕ) (x : A) (so_far : Option GeoBox) → i < length xs
     → x ≡ get_or xs i x → so_far ≡ box_of (flat_map f (take i xs))
-    → joined so_far (box_of (f x)) ≡ box_of (flat_map f (take (i + 1) xs))
+    → joined_boxes so_far (box_of (f x)) ≡ box_of (flat_map f (take (i + 1) xs))
 box_more f xs i x so_far h e before =
-    ap (λ box. joined box (box_of (f x))) before ∙ sym (box_of-append (flat_map f (take i xs)) (f x))
+    ap (λ box. joined_boxes box (box_of (f x))) before ∙ sym (box_of-append (flat_map f (take i xs)) (f x))
     ∙ ap box_of (sym (ap (flat_map f) (one_more xs i x h e) ∙ flat_map_append f (take i xs) x))
 
 -- a box by its sides

@@ -143,15 +143,15 @@ noted_change tables change old new are noted table count e =
 -- ---- the numbers as they stand in a list
 
 abbrev AreAt : (ℕ → ℕ) → List (Option ℕ) → Type 0
-AreAt number_of counts = (table count : ℕ) → slice_get counts table ≡ Some (Some count) → count ≡ number_of table
+AreAt cause_number counts = (table count : ℕ) → slice_get counts table ≡ Some (Some count) → count ≡ cause_number table
 
-more_at : (number_of : ℕ → ℕ) (counts : List (Option ℕ)) (count : ℕ) → AreAt number_of counts → count ≡ number_of (length counts)
-    → AreAt number_of (counts ++ Some count ∷ [])
-more_at number_of [] count are is zero found e = let same : count ≡ found = cc in sym same ∙ is
-more_at number_of [] count are is (suc table) found e = absurd (cc)
-more_at number_of (first ∷ counts) count are is zero found e = are zero found e
-more_at number_of (first ∷ counts) count are is (suc table) found e =
-    more_at (λ i. number_of (suc i)) counts count (λ table. are (suc table)) is table found e
+more_at : (cause_number : ℕ → ℕ) (counts : List (Option ℕ)) (count : ℕ) → AreAt cause_number counts → count ≡ cause_number (length counts)
+    → AreAt cause_number (counts ++ Some count ∷ [])
+more_at cause_number [] count are is zero found e = let same : count ≡ found = cc in sym same ∙ is
+more_at cause_number [] count are is (suc table) found e = absurd (cc)
+more_at cause_number (first ∷ counts) count are is zero found e = are zero found e
+more_at cause_number (first ∷ counts) count are is (suc table) found e =
+    more_at (λ i. cause_number (suc i)) counts count (λ table. are (suc table)) is table found e
 
 -- one table more is counted
 pub counts_more : (tables : TableMap) (counts : List (Option ℕ)) (table count : ℕ) → length counts ≡ table → AreCounts tables counts

@@ -43,10 +43,10 @@ around one other = record {
 }
 
 -- the same, where they are there
-abbrev pub joined : Option GeoBox → Option GeoBox → Option GeoBox
-joined None other = other
-joined (Some one) None = Some one
-joined (Some one) (Some other) = Some (around one other)
+abbrev pub joined_boxes : Option GeoBox → Option GeoBox → Option GeoBox
+joined_boxes None other = other
+joined_boxes (Some one) None = Some one
+joined_boxes (Some one) (Some other) = Some (around one other)
 
 -- a box, where it is there, has a place in common with an asked one
 abbrev pub near : GeoBox → Option GeoBox → Bool

@@ -4,11 +4,11 @@ use Rattle.map_query.specs.declared.fault.QueryWhy.{QueryWhy}
 use Rattle.map_query.specs.declared.fault.QueryWhy.TheVariants.{Form, UnknownTable, Number, EmptyBox}
 
 -- the number of a cause
-abbrev pub number_of : QueryWhy → ℕ
-number_of Form = 1
-number_of UnknownTable = 2
-number_of Number = 3
-number_of EmptyBox = 4
+abbrev pub cause_number : QueryWhy → ℕ
+cause_number Form = 1
+cause_number UnknownTable = 2
+cause_number Number = 3
+cause_number EmptyBox = 4
 
 -- one reading after the other: the first cause stands
 infixl 10 ◌>>=◌

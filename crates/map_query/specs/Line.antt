@@ -12,7 +12,7 @@ use Rattle.map_query.specs.declared.words.Verb.{Verb}
 use Rattle.map_query.specs.declared.words.Verb.TheVariants as verbs
 use Rattle.map_query.specs.Box.{IsBox}
 use Rattle.map_query.specs.Fault.{◌>>=◌}
-use Rattle.map_query.specs.Words.{words_of, text_of, next_word, last_word, verb_of, kind_of, table_in, id_in, lon_in, lat_in}
+use Rattle.map_query.specs.Words.{words_of, query_text, next_word, last_word, verb_of, kind_of, table_in, id_in, lon_in, lat_in}
 
 -- the box between these sides
 unfoldable pub box_between : (west south east north : ℤ) → Result GeoBox QueryWhy
@@ -59,7 +59,7 @@ query_behind style verbs.Box words = box_query style words
 -- the query that a line is, or its first cause
 unfoldable pub query_of : StyleOf → List ℕ → Result Query QueryWhy
 query_of style line =
-    text_of line >>= λ text.
+    query_text line >>= λ text.
     next_word (words_of text) >>= λ (word, words).
     verb_of word >>= λ verb.
     query_behind style verb words

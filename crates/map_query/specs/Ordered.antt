@@ -9,7 +9,7 @@ use Rattle.osm_base.specs.declared.values.row.Row.{Row}
 use Rattle.row_text.specs.Numbered.{rows_by_number}
 use Rattle.row_text.specs.Table.{has_areas}
 use Rattle.style_read.specs.Style.{StyleOf}
-use Rattle.map_query.specs.Answer.{is_in, joined, numbered}
+use Rattle.map_query.specs.Answer.{is_in, joined_boxes, numbered}
 use Rattle.map_query.specs.declared.blocks.TheConstants.{BLOCK}
 use Rattle.map_query.specs.declared.boxed.BoxedRow.{BoxedRow}
 use Rattle.map_query.specs.declared.ordered.TableRows.{TableRows}
@@ -20,7 +20,7 @@ seen own = (own.key, own.row.now)
 
 -- the box around rows
 abbrev pub around_rows : List BoxedRow → Option GeoBox
-around_rows rows = fold joined None (map (λ own. own.around) rows)
+around_rows rows = fold joined_boxes None (map (λ own. own.around) rows)
 
 -- these are the boxes around rows, of each BLOCK of them
 abbrev pub AreBlocks : List (Option GeoBox) → List BoxedRow → Type 0

@@ -17,8 +17,8 @@ use Rattle.map_query.specs.declared.words.Verb.{Verb}
 use Rattle.map_query.specs.declared.words.Verb.TheVariants as verbs
 
 -- the text that the bytes of a line are
-abbrev pub text_of : List ℕ → Result (List ℕ) QueryWhy
-text_of line = if is_utf8 line then Ok line else Err Form
+abbrev pub query_text : List ℕ → Result (List ℕ) QueryWhy
+query_text line = if is_utf8 line then Ok line else Err Form
 
 -- the words of a text: what stands between single spaces
 unfoldable pub words_of : List ℕ → List (List ℕ)

@@ -4,7 +4,7 @@ ghost use Rattle.map_query.specs.Answer.{near};
 ghost use Rattle.map_query.specs.Ordered.{AreBlocks, around_rows};
 
 use crate::boxed::BoxedRow;
-use crate::boxes::joined;
+use crate::boxes::joined_boxes;
 use lanes_geo::is_met;
 use osm_base::{GeoBox, OutOfMemory};
 use std::alloc::Global;
@@ -47,7 +47,7 @@ fn around_rows(rows: &[BoxedRow]) -> Option<GeoBox>
 {
     let mut around = None;
     for own in rows {
-        around = joined(around, own.around);
+        around = joined_boxes(around, own.around);
     }
     around
 }

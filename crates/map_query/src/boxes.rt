@@ -1,7 +1,7 @@
 //! The boxes of rows.
 ghost use Rattle.std.specs.Prelude.{◌≡◌, flat_map};
 ghost use Rattle.lanes_geo.specs.Box.{box_of as box_around};
-ghost use Rattle.map_query.specs.Answer.{around, joined, line_places, places_of};
+ghost use Rattle.map_query.specs.Answer.{around, joined_boxes, line_places, places_of};
 
 use lanes_geo::box_of;
 use osm_base::{GeoBox, Geometry, LineList, Place, Places};
@@ -36,7 +36,7 @@ fn box_of_lines(lines: &[Places]) -> Option<GeoBox>
 {
     let mut around = None;
     for line in lines {
-        around = joined(around, box_of(line.as_slice()));
+        around = joined_boxes(around, box_of(line.as_slice()));
     }
     around
 }
@@ -47,14 +47,14 @@ fn box_of_polygons(polygons: &[LineList]) -> Option<GeoBox>
 {
     let mut around = None;
     for rings in polygons {
-        around = joined(around, box_of_lines(rings.as_slice()));
+        around = joined_boxes(around, box_of_lines(rings.as_slice()));
     }
     around
 }
 
 /// The box around two boxes, where they are there.
-pub(crate) fn joined(one: Option<GeoBox>, other: Option<GeoBox>) -> Option<GeoBox>
-    ensures sides { result ≡ joined one other }
+pub(crate) fn joined_boxes(one: Option<GeoBox>, other: Option<GeoBox>) -> Option<GeoBox>
+    ensures sides { result ≡ joined_boxes one other }
 {
     match (one, other) {
         (Some(one), Some(other)) => Some(around(one, other)),

@@ -1,7 +1,7 @@
 //! Why a file of queries was not read.
 ghost use Rattle.std.specs.Prelude.{◌≡◌};
 ghost use Rattle.map_query.specs.declared.fault.QueryFault.TheVariants.{OutOfMemory as NoMemory};
-ghost use Rattle.map_query.specs.Fault.{number_of};
+ghost use Rattle.map_query.specs.Fault.{cause_number};
 
 use std::alloc::{AllocError, AllocFailed};
 use thiserror::Error;
@@ -22,7 +22,7 @@ pub enum QueryWhy {
 impl QueryWhy {
     /// The number of the cause.
     pub fn number(&self) -> u8
-        ensures number { result ≡ number_of self.now }
+        ensures number { result ≡ cause_number self.now }
     {
         match self {
             QueryWhy::Form => 1,

@@ -7,7 +7,7 @@ ghost use Rattle.map_query.specs.Words.{words_of};
 use crate::fault::QueryWhy;
 use crate::query::Query;
 use crate::words::{
-    Verb, id_in, kind_of, last_word, lat_in, lon_in, next_word, table_in, text_of, verb_of,
+    Verb, id_in, kind_of, last_word, lat_in, lon_in, next_word, query_text, table_in, verb_of,
 };
 use osm_base::{GeoBox, Key};
 use style_read::Style;
@@ -18,7 +18,7 @@ pub(crate) fn query_of(style: &Style, line: &[u8]) -> Result<Query, QueryWhy>
     ensures query { result ≡ query_of style.now line.now }
     ensures asked { IfOk result (IsAsked style.now) }
 {
-    let text = text_of(line)?;
+    let text = query_text(line)?;
     let (word, rest) = next_word(text)?;
     let verb = verb_of(word)?;
     query_behind(style, verb, rest)

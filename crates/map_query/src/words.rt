@@ -4,7 +4,7 @@ ghost use Rattle.style_read.specs.Style.{StyleOf};
 ghost use Rattle.osm_base.specs.values.Key.{IsId};
 ghost use Rattle.map_query.specs.Box.{IsLongitude, IsLatitude};
 ghost use Rattle.map_query.specs.Fault.{Tells};
-ghost use Rattle.map_query.specs.Words.{words_of, text_of, next_word, last_word, verb_of, kind_of, table_in, id_in, lon_in, lat_in};
+ghost use Rattle.map_query.specs.Words.{words_of, query_text, next_word, last_word, verb_of, kind_of, table_in, id_in, lon_in, lat_in};
 
 use crate::fault::QueryWhy;
 use opl_object::{coordinate_of, id_of};
@@ -25,8 +25,8 @@ pub(crate) enum Verb {
 }
 
 /// The text that the bytes of a line are.
-pub(crate) fn text_of(line: &[u8]) -> Result<&str, QueryWhy>
-    ensures text { Tells (λ text. text.now) result (text_of line.now) }
+pub(crate) fn query_text(line: &[u8]) -> Result<&str, QueryWhy>
+    ensures text { Tells (λ text. text.now) result (query_text line.now) }
 {
     match str::from_utf8(line) {
         Ok(text) => Ok(text),

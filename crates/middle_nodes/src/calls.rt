@@ -4,7 +4,7 @@ ghost use Rattle.std.specs.Option.{option_copied};
 ghost use Rattle.bucket_store.specs.Transaction.{IsOpenStore, IsReady};
 ghost use Rattle.bucket_store.specs.Typed.{Gets, GetsValue, ReadsAs, SetsValue, TakesValue, Touches};
 ghost use Rattle.value_bytes.specs.Nodes.{record_bytes, IsRecord};
-ghost use Rattle.value_bytes.specs.StoreMap.{number_of};
+ghost use Rattle.value_bytes.specs.StoreMap.{map_number};
 ghost use Rattle.value_bytes.specs.declared.store_map.StoreMap.TheVariants.{Nodes};
 
 use bucket_store::{Buckets, refuse_value};
@@ -20,9 +20,9 @@ pub fn get<D: Disk>(
     id: u64,
 ) -> Result<Option<NodeRecord>, StoreFault>
     requires ready { IsReady buckets.old }
-    ensures answers { (pages : List (List ℕ)) → IsOpenStore pages buckets.old → Gets record_bytes IsRecord pages buckets.old (number_of Nodes) id result }
-    ensures value { GetsValue record_bytes IsRecord (number_of Nodes) id buckets.old buckets.new result }
-    ensures touches { Touches (number_of Nodes) id buckets.old buckets.new result }
+    ensures answers { (pages : List (List ℕ)) → IsOpenStore pages buckets.old → Gets record_bytes IsRecord pages buckets.old (map_number Nodes) id result }
+    ensures value { GetsValue record_bytes IsRecord (map_number Nodes) id buckets.old buckets.new result }
+    ensures touches { Touches (map_number Nodes) id buckets.old buckets.new result }
 {
     if let Err(fault) = buckets.bring(StoreMap::Nodes, id) {
         return Err(fault);
@@ -42,9 +42,9 @@ pub fn put<D: Disk>(
     node: &NodeRecord,
 ) -> Result<(), StoreFault>
     requires ready { IsReady buckets.old }
-    ensures value { SetsValue (number_of Nodes) id (record_bytes node.now) buckets.old buckets.new result }
+    ensures value { SetsValue (map_number Nodes) id (record_bytes node.now) buckets.old buckets.new result }
     ensures is { OnOk result (IsRecord node.now) }
-    ensures touches { Touches (number_of Nodes) id buckets.old buckets.new result }
+    ensures touches { Touches (map_number Nodes) id buckets.old buckets.new result }
 {
     match bytes_of(alloc, node) {
         Ok(bytes) => buckets.put(StoreMap::Nodes, id, bytes.as_slice()),
@@ -58,8 +58,8 @@ pub fn put<D: Disk>(
 /// Takes out what the store keeps of a node, and answers whether that was anything.
 pub fn remove<D: Disk>(buckets: &mut Buckets<'_, D>, id: u64) -> Result<bool, StoreFault>
     requires ready { IsReady buckets.old }
-    ensures value { TakesValue (number_of Nodes) id buckets.old buckets.new result }
-    ensures touches { Touches (number_of Nodes) id buckets.old buckets.new result }
+    ensures value { TakesValue (map_number Nodes) id buckets.old buckets.new result }
+    ensures touches { Touches (map_number Nodes) id buckets.old buckets.new result }
 {
     buckets.remove(StoreMap::Nodes, id)
 }

@@ -5,7 +5,7 @@ ghost use Rattle.bucket_store.specs.Transaction.{IsOpenStore, IsReady};
 ghost use Rattle.bucket_store.specs.Typed.{Gets, GetsValue, ReadsAs, Touches};
 ghost use Rattle.middle_nodes.specs.Old.{old_bytes, IsOldPlace};
 ghost use Rattle.value_bytes.specs.Forms.{IsNoValue, NeedsFor, Spells};
-ghost use Rattle.value_bytes.specs.StoreMap.{number_of};
+ghost use Rattle.value_bytes.specs.StoreMap.{map_number};
 ghost use Rattle.value_bytes.specs.declared.store_map.StoreMap.TheVariants.{Nodes};
 
 use bucket_store::{Buckets, refuse_value};
@@ -23,9 +23,9 @@ pub fn get_old<D: Disk>(
     id: u64,
 ) -> Result<Option<Option<Place>>, StoreFault>
     requires ready { IsReady buckets.old }
-    ensures answers { (pages : List (List ℕ)) → IsOpenStore pages buckets.old → Gets old_bytes IsOldPlace pages buckets.old (number_of Nodes) id result }
-    ensures value { GetsValue old_bytes IsOldPlace (number_of Nodes) id buckets.old buckets.new result }
-    ensures touches { Touches (number_of Nodes) id buckets.old buckets.new result }
+    ensures answers { (pages : List (List ℕ)) → IsOpenStore pages buckets.old → Gets old_bytes IsOldPlace pages buckets.old (map_number Nodes) id result }
+    ensures value { GetsValue old_bytes IsOldPlace (map_number Nodes) id buckets.old buckets.new result }
+    ensures touches { Touches (map_number Nodes) id buckets.old buckets.new result }
 {
     if let Err(fault) = buckets.bring(StoreMap::Nodes, id) {
         return Err(fault);

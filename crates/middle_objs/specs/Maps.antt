@@ -2,7 +2,7 @@
 use Rattle.std.specs.Prelude.{ℕ}
 use Rattle.osm_base.specs.declared.values.key.Kind.{Kind}
 use Rattle.osm_base.specs.declared.values.key.Kind.TheVariants as kinds
-use Rattle.value_bytes.specs.StoreMap.{number_of}
+use Rattle.value_bytes.specs.StoreMap.{map_number}
 use Rattle.value_bytes.specs.declared.store_map.StoreMap.{StoreMap}
 use Rattle.value_bytes.specs.declared.store_map.StoreMap.TheVariants.{Ways, Relations}
 
@@ -12,4 +12,4 @@ object_map _ = Relations
 
 -- and its number
 abbrev pub map_of : Kind → ℕ
-map_of kind = number_of (object_map kind)
+map_of kind = map_number (object_map kind)

@@ -6,7 +6,7 @@ ghost use Rattle.bucket_store.specs.Transaction.{IsOpenStore, IsReady};
 ghost use Rattle.bucket_store.specs.Typed.{Gets, GetsValue, ReadsAs, SetsValue, TakesValue, Touches};
 ghost use Rattle.middle_objs.specs.Maps.{map_of, object_map};
 ghost use Rattle.value_bytes.specs.Objects.{object_bytes, IsStored, IsKept};
-ghost use Rattle.value_bytes.specs.StoreMap.{number_of};
+ghost use Rattle.value_bytes.specs.StoreMap.{map_number};
 
 use bucket_store::{Buckets, refuse_value};
 use osm_base::{Key, Kind, Object};
@@ -74,10 +74,10 @@ fn get_from<D: Disk>(
 ) -> Result<Option<Object>, StoreFault>
     requires kind { kind ≢ kinds.Node }
     requires ready { IsReady buckets.old }
-    ensures answers { (pages : List (List ℕ)) → IsOpenStore pages buckets.old → Gets object_bytes (IsStored kind) pages buckets.old (number_of map) id result }
-    ensures value { GetsValue object_bytes (IsStored kind) (number_of map) id buckets.old buckets.new result }
+    ensures answers { (pages : List (List ℕ)) → IsOpenStore pages buckets.old → Gets object_bytes (IsStored kind) pages buckets.old (map_number map) id result }
+    ensures value { GetsValue object_bytes (IsStored kind) (map_number map) id buckets.old buckets.new result }
     ensures kept { IfOk result (λ found. IfSome found (IsKept kind)) }
-    ensures touches { Touches (number_of map) id buckets.old buckets.new result }
+    ensures touches { Touches (map_number map) id buckets.old buckets.new result }
 {
     if let Err(fault) = buckets.bring(map, id) {
         return Err(fault);

@@ -7,20 +7,20 @@ use Rattle.opl_object.specs.declared.why.LineRefused.{LineRefused}
 use Rattle.opl_object.specs.declared.why.LineRefused.TheVariants.{Bad, OutOfMemory}
 
 -- the number of a cause
-abbrev pub number_of : Why → ℕ
-number_of Utf8 = 1
-number_of Kind = 2
-number_of Id = 3
-number_of Field = 4
-number_of Repeated = 5
-number_of Number = 6
-number_of Range = 7
-number_of Escape = 8
-number_of Tag = 9
-number_of RepeatedKey = 10
-number_of Member = 11
-number_of HalfPlace = 12
-number_of (Order earlier later) = 13
+abbrev pub cause_number : Why → ℕ
+cause_number Utf8 = 1
+cause_number Kind = 2
+cause_number Id = 3
+cause_number Field = 4
+cause_number Repeated = 5
+cause_number Number = 6
+cause_number Range = 7
+cause_number Escape = 8
+cause_number Tag = 9
+cause_number RepeatedKey = 10
+cause_number Member = 11
+cause_number HalfPlace = 12
+cause_number (Order earlier later) = 13
 
 -- one reading after the other: the first cause stands
 infixl 10 ◌>>=◌

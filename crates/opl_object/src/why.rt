@@ -1,7 +1,7 @@
 //! Why a line has no entry.
 ghost use Rattle.std.specs.Prelude.{◌≡◌};
 ghost use Rattle.opl_object.specs.declared.why.LineRefused.TheVariants.{Bad, OutOfMemory as NoMemory};
-ghost use Rattle.opl_object.specs.Why.{number_of};
+ghost use Rattle.opl_object.specs.Why.{cause_number};
 
 use osm_base::{Key, OutOfMemory};
 use std::alloc::{AllocError, AllocFailed};
@@ -30,7 +30,7 @@ pub enum Why {
 impl Why {
     /// The number of the cause.
     pub fn number(&self) -> u8
-        ensures number { result ≡ number_of self.now }
+        ensures number { result ≡ cause_number self.now }
     {
         match self {
             Why::Utf8 => 1,

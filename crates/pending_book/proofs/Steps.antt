@@ -12,7 +12,7 @@ use Rattle.std.proofs.lemmas.List.Sums.{sum_by_push, sum_by-append, sum_by-cons}
 use Rattle.pending_book.proofs.Sums.{sum_set, part_le, sum_le, sum_whole}
 use Rattle.pending_book.proofs.Counts.{times_push, times-append, once_more, all_below}
 use Rattle.pending_book.specs.Once.{IsOnce, times, once_below}
-use Rattle.pending_book.specs.Rule.{Fits, KeptAt, hand, kept, given, joined, spent}
+use Rattle.pending_book.specs.Rule.{Fits, KeptAt, hand, kept, given, joined_seats, spent}
 use Rattle.pending_book.specs.declared.view.Size.{Size}
 use Rattle.pending_book.specs.declared.view.View.{View}
 
@@ -163,10 +163,10 @@ splits size word views id v give rule at least most fresh =
 -- a join
 pub merges : (size : Size) (word : ℕ) (views : List View) (id : ℕ) (v : View) (other : ℕ) (w : View) → KeptAt size word views
     → get_elem? views id ≡ some v
-    → ¬ (other ≡ id) → get_elem? (set views id (joined v w)) other ≡ some w → 0 < v.share
-    → KeptAt size word (set (set views id (joined v w)) other spent)
+    → ¬ (other ≡ id) → get_elem? (set views id (joined_seats v w)) other ≡ some w → 0 < v.share
+    → KeptAt size word (set (set views id (joined_seats v w)) other spent)
 merges size word views id v other w rule at apart there some_left =
-    let both = joined v w in
+    let both = joined_seats v w in
     let first = set views id both in
     let fit = rule.fits id v at in
     let fit_other = rule.fits other w (sym (set_else views id other both apart) ∙ there) in

@@ -53,8 +53,8 @@ abbrev pub given : ℕ → View → View
 given give view = hand view.tickets give [] 0
 
 -- one seat out of two
-abbrev pub joined : View → View → View
-joined left right = hand left.tickets (left.share + right.share) (left.drawn ++ right.drawn) (left.nones + right.nones)
+abbrev pub joined_seats : View → View → View
+joined_seats left right = hand left.tickets (left.share + right.share) (left.drawn ++ right.drawn) (left.nones + right.nones)
 
 -- what is known of a seat that was joined to another
 abbrev pub spent : View

@@ -108,7 +108,7 @@ impl Book {
     pub fn join(&self, seat: &mut Seat, other: Seat)
         requires ours { seat.old.book ≡ self.now }
         requires other_ours { other.book ≡ self.now }
-        ensures joined { seat.new ≡ seat_view self.now (seat.old.share + other.share)
+        ensures joined_seats { seat.new ≡ seat_view self.now (seat.old.share + other.share)
             (seat.old.tickets ++ other.tickets) (seat.old.nones + other.nones) }
     {
         let Seat {

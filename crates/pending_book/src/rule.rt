@@ -1,6 +1,6 @@
 //! The rule of a book, and the steps that its seats make.
 ghost use Rattle.std.specs.Prelude.{ℕ, []};
-ghost use Rattle.pending_book.specs.Rule.{Draws, Kept, Looks, given, hand, joined, kept, spent};
+ghost use Rattle.pending_book.specs.Rule.{Draws, Kept, Looks, given, hand, joined_seats, kept, spent};
 
 use crate::view::{Size, View};
 use atomic_table::{Join, Play, Split, TableRule};
@@ -53,7 +53,7 @@ impl<G: Amount> Split<View> for Gives<G> {
 pub struct Joined;
 
 impl Join<View> for Joined {
-    ghost both = { joined };
+    ghost both = { joined_seats };
 
     ghost spent = { spent };
 }

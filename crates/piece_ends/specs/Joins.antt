@@ -17,5 +17,5 @@ line_begun piece unused =
     if is_closed forward.0 then forward else extended_at_first forward.0 forward.1
 
 -- the joined lines of pieces
-abbrev pub joined : List Line → List Line
-joined pieces = lines_by line_begun pieces
+abbrev pub joined_lines : List Line → List Line
+joined_lines pieces = lines_by line_begun pieces

@@ -23,7 +23,7 @@ use Rattle.object_fold.proofs.IndexOf.{ids_of-rise}
 use Rattle.object_fold.proofs.Listers.{key, has-ids_of, kind_same, untied-kinds}
 use Rattle.object_fold.proofs.SortedIds.{same_rising}
 use Rattle.placed_objects.specs.NodePlaces.{PlaceMap}
-use Rattle.placed_objects.specs.Objects.{joined, plain, with_nodes}
+use Rattle.placed_objects.specs.Objects.{joined_objects, plain, with_nodes}
 
 -- what is found of a node that may be known by its place
 abbrev pub node_found : Option PlaceOf → Option Object → Option Object
@@ -43,8 +43,8 @@ get-node-with (node ∷ nodes) objects id =
     ∙ node_or (eq_by_cmp nat_cmp id node.0) node.1 (finite.find nat_cmp id nodes) (finite.get objects (node_key id))
 
 pub get-node : (places : PlaceMap) (objects : ObjectSet) (id : ℕ)
-    → finite.get (joined places objects) (node_key id) ≡ node_found (finite.get places id) (finite.get objects (node_key id))
-unfolding joined
+    → finite.get (joined_objects places objects) (node_key id) ≡ node_found (finite.get places id) (finite.get objects (node_key id))
+unfolding joined_objects
 get-node places objects id =
     get-node-with (finite.entries places) objects id
     ∙ ap (λ place. node_found place (finite.get objects (node_key id))) (sym (finite.get-entries places id))
@@ -58,8 +58,8 @@ get-other-with (node ∷ nodes) objects kind id other =
     ∙ get-other-with nodes objects kind id other
 
 pub get-other : (places : PlaceMap) (objects : ObjectSet) (kind : Kind) (id : ℕ) → is_kind kind Node ≡ false
-    → finite.get (joined places objects) (key kind id) ≡ finite.get objects (key kind id)
-unfolding joined
+    → finite.get (joined_objects places objects) (key kind id) ≡ finite.get objects (key kind id)
+unfolding joined_objects
 get-other places objects kind id other = get-other-with (finite.entries places) objects kind id other
 
 by_kind : (P : KeyOf → Type 0) → ((id : ℕ) → P (node_key id)) → ((kind : Kind) (id : ℕ) → is_kind kind Node ≡ false → P (key kind id))
@@ -75,9 +75,9 @@ same_objects one other nodes others =
     (λ own. by_kind (λ at. finite.get one at ≡ finite.get other at) nodes others own.kind own.id)
 
 -- no place and no object
-pub joined-empty : (places : PlaceMap) (objects : ObjectSet) → places ≡ finite.empty → objects ≡ finite.empty
-    → joined places objects ≡ finite.empty
-joined-empty places objects no_place no_object = same_objects (joined places objects) finite.empty
+pub joined_objects-empty : (places : PlaceMap) (objects : ObjectSet) → places ≡ finite.empty → objects ≡ finite.empty
+    → joined_objects places objects ≡ finite.empty
+joined_objects-empty places objects no_place no_object = same_objects (joined_objects places objects) finite.empty
     (λ id. get-node places objects id
     ∙ ap (λ (own : PlaceMap). node_found (finite.get own id) (finite.get objects (node_key id))) no_place
     ∙ ap (λ place. node_found place (finite.get objects (node_key id))) (finite.get-empty nat_cmp id)
@@ -90,10 +90,10 @@ chosen true place object own = refl
 chosen false place object own = refl
 
 -- an entry of a node that is put among the objects, and no longer known by its place
-joined-node : (places : PlaceMap) (objects : ObjectSet) (id : ℕ) (object : Option Object)
-    → joined (finite.remove places id) (with_object objects (node_key id) object) ≡ with_object (joined places objects) (node_key id) object
-joined-node places objects id object = same_objects (joined (finite.remove places id) (with_object objects (node_key id) object))
-    (with_object (joined places objects) (node_key id) object)
+joined_objects-node : (places : PlaceMap) (objects : ObjectSet) (id : ℕ) (object : Option Object)
+    → joined_objects (finite.remove places id) (with_object objects (node_key id) object) ≡ with_object (joined_objects places objects) (node_key id) object
+joined_objects-node places objects id object = same_objects (joined_objects (finite.remove places id) (with_object objects (node_key id) object))
+    (with_object (joined_objects places objects) (node_key id) object)
     (λ own.
     get-node (finite.remove places id) (with_object objects (node_key id) object) own
     ∙ ap (λ place. node_found place (finite.get (with_object objects (node_key id) object) (node_key own)))
@@ -102,28 +102,28 @@ joined-node places objects id object = same_objects (joined (finite.remove place
     (get-with_object objects (node_key id) object (node_key own))
     ∙ chosen (eq_by_cmp nat_cmp own id) (finite.get places own) object (finite.get objects (node_key own))
     ∙ ap (cond (eq_by_cmp nat_cmp own id) object) (sym (get-node places objects own))
-    ∙ sym (get-with_object (joined places objects) (node_key id) object (node_key own)))
+    ∙ sym (get-with_object (joined_objects places objects) (node_key id) object (node_key own)))
     (λ kind own other.
     get-other (finite.remove places id) (with_object objects (node_key id) object) kind own other
     ∙ get-with_object objects (node_key id) object (key kind own)
     ∙ ap (cond (eq_by_cmp key_cmp (key kind own) (node_key id)) object) (sym (get-other places objects kind own other))
-    ∙ sym (get-with_object (joined places objects) (node_key id) object (key kind own)))
+    ∙ sym (get-with_object (joined_objects places objects) (node_key id) object (key kind own)))
 
 -- a place more
-pub joined-place : (places : PlaceMap) (objects : ObjectSet) (id : ℕ) (place : PlaceOf)
-    → joined (finite.insert places id place) objects ≡ finite.insert (joined places objects) (node_key id) (plain place)
-joined-place places objects id place = same_objects (joined (finite.insert places id place) objects)
-    (finite.insert (joined places objects) (node_key id) (plain place))
+pub joined_objects-place : (places : PlaceMap) (objects : ObjectSet) (id : ℕ) (place : PlaceOf)
+    → joined_objects (finite.insert places id place) objects ≡ finite.insert (joined_objects places objects) (node_key id) (plain place)
+joined_objects-place places objects id place = same_objects (joined_objects (finite.insert places id place) objects)
+    (finite.insert (joined_objects places objects) (node_key id) (plain place))
     (λ own.
     get-node (finite.insert places id place) objects own
     ∙ ap (λ found. node_found found (finite.get objects (node_key own))) (finite.get-insert nat_cmp_total places id place own)
     ∙ sym (node_or (eq_by_cmp nat_cmp own id) place (finite.get places own) (finite.get objects (node_key own)))
     ∙ ap (cond (eq_by_cmp nat_cmp own id) (Some (plain place))) (sym (get-node places objects own))
-    ∙ sym (finite.get-insert key_cmp_total (joined places objects) (node_key id) (plain place) (node_key own)))
+    ∙ sym (finite.get-insert key_cmp_total (joined_objects places objects) (node_key id) (plain place) (node_key own)))
     (λ kind own other.
     get-other (finite.insert places id place) objects kind own other
-    ∙ sym (finite.get-insert key_cmp_total (joined places objects) (node_key id) (plain place) (key kind own)
-    ∙ ap (λ b. cond b (Some (plain place)) (finite.get (joined places objects) (key kind own))) (untied-kinds kind Node own id other)
+    ∙ sym (finite.get-insert key_cmp_total (joined_objects places objects) (node_key id) (plain place) (key kind own)
+    ∙ ap (λ b. cond b (Some (plain place)) (finite.get (joined_objects places objects) (key kind own))) (untied-kinds kind Node own id other)
     ∙ get-other places objects kind own other))
 
 untied-node : (kind : Kind) (id own : ℕ) → is_kind kind Node ≡ false → eq_by_cmp key_cmp (node_key own) (key kind id) ≡ false
@@ -132,48 +132,48 @@ untied-node Way id own other = refl
 untied-node Relation id own other = refl
 
 -- an entry of a way or a relation
-pub joined-object : (places : PlaceMap) (objects : ObjectSet) (kind : Kind) (id : ℕ) (object : Option Object) → is_kind kind Node ≡ false
-    → joined places (with_object objects (key kind id) object) ≡ with_object (joined places objects) (key kind id) object
-joined-object places objects kind id object other =
-    same_objects (joined places (with_object objects (key kind id) object)) (with_object (joined places objects) (key kind id) object)
+pub joined_objects-object : (places : PlaceMap) (objects : ObjectSet) (kind : Kind) (id : ℕ) (object : Option Object) → is_kind kind Node ≡ false
+    → joined_objects places (with_object objects (key kind id) object) ≡ with_object (joined_objects places objects) (key kind id) object
+joined_objects-object places objects kind id object other =
+    same_objects (joined_objects places (with_object objects (key kind id) object)) (with_object (joined_objects places objects) (key kind id) object)
     (λ own.
     get-node places (with_object objects (key kind id) object) own
     ∙ ap (node_found (finite.get places own))
     (get-with_object objects (key kind id) object (node_key own)
     ∙ ap (λ b. cond b object (finite.get objects (node_key own))) (untied-node kind id own other))
-    ∙ sym (get-with_object (joined places objects) (key kind id) object (node_key own)
-    ∙ ap (λ b. cond b object (finite.get (joined places objects) (node_key own))) (untied-node kind id own other)
+    ∙ sym (get-with_object (joined_objects places objects) (key kind id) object (node_key own)
+    ∙ ap (λ b. cond b object (finite.get (joined_objects places objects) (node_key own))) (untied-node kind id own other)
     ∙ get-node places objects own))
     (λ own_kind own apart.
     get-other places (with_object objects (key kind id) object) own_kind own apart
     ∙ get-with_object objects (key kind id) object (key own_kind own)
     ∙ ap (cond (eq_by_cmp key_cmp (key own_kind own) (key kind id)) object) (sym (get-other places objects own_kind own apart))
-    ∙ sym (get-with_object (joined places objects) (key kind id) object (key own_kind own)))
+    ∙ sym (get-with_object (joined_objects places objects) (key kind id) object (key own_kind own)))
 
 place_found : (place : Option PlaceOf) (object : Option Object) → place_in (node_found place object) ≡ option_or place (place_in object)
 place_found None object = refl
 place_found (Some place) object = refl
 
 -- the place of a node
-pub joined-known : (places : PlaceMap) (objects : ObjectSet) (id : ℕ)
-    → (known_of (joined places objects)).place id ≡ option_or (finite.get places id) ((known_of objects).place id)
-joined-known places objects id = ap place_in (get-node places objects id)
+pub joined_objects-known : (places : PlaceMap) (objects : ObjectSet) (id : ℕ)
+    → (known_of (joined_objects places objects)).place id ≡ option_or (finite.get places id) ((known_of objects).place id)
+joined_objects-known places objects id = ap place_in (get-node places objects id)
     ∙ place_found (finite.get places id) (finite.get objects (node_key id))
 
 -- who lists what
-pub joined-lists : (places : PlaceMap) (objects : ObjectSet) (by kind : Kind) (id : ℕ) → is_kind by Node ≡ false
-    → ids_of by kind id (joined places objects) ≡ ids_of by kind id objects
-joined-lists places objects by kind id other =
-    same_rising (ids_of by kind id (joined places objects)) (ids_of by kind id objects) (ids_of-rise (joined places objects) by kind id)
+pub joined_objects-lists : (places : PlaceMap) (objects : ObjectSet) (by kind : Kind) (id : ℕ) → is_kind by Node ≡ false
+    → ids_of by kind id (joined_objects places objects) ≡ ids_of by kind id objects
+joined_objects-lists places objects by kind id other =
+    same_rising (ids_of by kind id (joined_objects places objects)) (ids_of by kind id objects) (ids_of-rise (joined_objects places objects) by kind id)
     (ids_of-rise objects by kind id)
-    (λ own. has-ids_of (joined places objects) by kind id own ∙ ap (lists kind id) (get-other places objects by own other)
+    (λ own. has-ids_of (joined_objects places objects) by kind id own ∙ ap (lists kind id) (get-other places objects by own other)
     ∙ sym (has-ids_of objects by kind id own))
 
-pub joined-index : (places : PlaceMap) (objects : ObjectSet) → index_of (joined places objects) ≡ index_of objects
-joined-index places objects = λ i. record {
-  ways_of_node = λ id. joined-lists places objects Way Node id refl i;
-  relations_of_node = λ id. joined-lists places objects Relation Node id refl i;
-  relations_of_way = λ id. joined-lists places objects Relation Way id refl i;
+pub joined_objects-index : (places : PlaceMap) (objects : ObjectSet) → index_of (joined_objects places objects) ≡ index_of objects
+joined_objects-index places objects = λ i. record {
+  ways_of_node = λ id. joined_objects-lists places objects Way Node id refl i;
+  relations_of_node = λ id. joined_objects-lists places objects Relation Node id refl i;
+  relations_of_way = λ id. joined_objects-lists places objects Relation Way id refl i;
 }
 
 pub on_ok : {A E : Type 0} (result : Result A E) {P Q : Type 0} → (P → Q) → OnOk result P → OnOk result Q
@@ -193,17 +193,17 @@ module _ (entry : Entry) (node : is_kind entry.key.kind Node ≡ true) (id : ℕ
   -- an entry of a node that was put among the places, or was not
   pub put-answer : (old new : PlaceMap) (put : Result Bool OutOfMemory) (place : PlaceOf) → entry.object ≡ Some (plain place)
       → IfOk put (λ own. new ≡ cond own (finite.insert old id place) old)
-      → IfOk put (λ own. (others : ObjectSet) → joined new others ≡ cond own (folded (joined old others) entry) (joined old others))
+      → IfOk put (λ own. (others : ObjectSet) → joined_objects new others ≡ cond own (folded (joined_objects old others) entry) (joined_objects old others))
   put-answer old new (Ok true) place object is = λ others.
-      ap (λ own. joined own others) is ∙ joined-place old others id place
-      ∙ λ i. with_object (joined old others) (own_key i) (sym object i)
-  put-answer old new (Ok false) place object is = λ others. ap (λ own. joined own others) is
+      ap (λ own. joined_objects own others) is ∙ joined_objects-place old others id place
+      ∙ λ i. with_object (joined_objects old others) (own_key i) (sym object i)
+  put-answer old new (Ok false) place object is = λ others. ap (λ own. joined_objects own others) is
   put-answer old new (Err why) place object is = tt
 
   -- and one that was put among the other objects
-  pub joined-entry : (places : PlaceMap) (others : ObjectSet)
-      → joined (finite.remove places id) (folded others entry) ≡ folded (joined places others) entry
-  joined-entry places others =
-      subst (λ (at : KeyOf). joined (finite.remove places id) (with_object others at entry.object)
-      ≡ with_object (joined places others) at entry.object) own_key
-      (joined-node places others id entry.object)
+  pub joined_objects-entry : (places : PlaceMap) (others : ObjectSet)
+      → joined_objects (finite.remove places id) (folded others entry) ≡ folded (joined_objects places others) entry
+  joined_objects-entry places others =
+      subst (λ (at : KeyOf). joined_objects (finite.remove places id) (with_object others at entry.object)
+      ≡ with_object (joined_objects places others) at entry.object) own_key
+      (joined_objects-node places others id entry.object)

@@ -20,8 +20,8 @@ abbrev pub with_nodes : List (ℕ × PlaceOf) → ObjectSet → ObjectSet
 with_nodes [] objects = objects
 with_nodes (node ∷ nodes) objects = map.insert (with_nodes nodes objects) (node_key node.0) (plain node.1)
 
-unfoldable pub joined : PlaceMap → ObjectSet → ObjectSet
-joined places objects = with_nodes (map.entries places) objects
+unfoldable pub joined_objects : PlaceMap → ObjectSet → ObjectSet
+joined_objects places objects = with_nodes (map.entries places) objects
 
 -- what is looked up of them where nobody asks who lists them: the place of each node, and each way and relation
 abbrev pub looked_up_alone : ObjectSet → Known

@@ -27,13 +27,13 @@ impl Model for PlacedImport {
     ghost use Rattle.osm_base.specs.values.KeyOrder.{key_cmp};
     ghost use Rattle.osm_base.specs.contracts.values.key.Key as key;
     ghost use Rattle.osm_base.specs.contracts.values.object.Object as object;
-    ghost use Rattle.placed_objects.specs.Objects.{joined};
+    ghost use Rattle.placed_objects.specs.Objects.{joined_objects};
 
     ghost Value = { map.FinMap key_cmp Object };
 
     ghost coded = { map.code key.the_row.coded object.the_row.coded };
 
-    ghost view = { λ own. joined own.places own.others };
+    ghost view = { λ own. joined_objects own.places own.others };
 }
 
 impl PlacedImport {

@@ -4,7 +4,7 @@ ghost use Rattle.std.specs.FinMap as map;
 ghost use Rattle.osm_base.specs.declared.values.key.Kind.TheVariants as kinds;
 ghost use Rattle.osm_base.specs.map.Listers.{index_of, is_kind};
 ghost use Rattle.osm_base.specs.map.Objects.{ObjectSet, folded, folded_all};
-ghost use Rattle.placed_objects.specs.Objects.{joined, looked_up, plain};
+ghost use Rattle.placed_objects.specs.Objects.{joined_objects, looked_up, plain};
 
 use crate::node_places::NodePlaces;
 use object_fold::{Change, ObjectIndex, Objects};
@@ -27,13 +27,13 @@ impl Model for PlacedObjects {
     ghost use Rattle.osm_base.specs.values.KeyOrder.{key_cmp};
     ghost use Rattle.osm_base.specs.contracts.values.key.Key as key;
     ghost use Rattle.osm_base.specs.contracts.values.object.Object as object;
-    ghost use Rattle.placed_objects.specs.Objects.{joined};
+    ghost use Rattle.placed_objects.specs.Objects.{joined_objects};
 
     ghost Value = { map.FinMap key_cmp Object };
 
     ghost coded = { map.code key.the_row.coded object.the_row.coded };
 
-    ghost view = { λ own. joined own.places own.others };
+    ghost view = { λ own. joined_objects own.places own.others };
 }
 
 impl PlacedObjects {
@@ -93,8 +93,8 @@ pub(crate) fn is_node(key: Key) -> bool
 /// Puts the node that an entry makes among the places, where it is no more than its place. `false`: it is, or it came out of order.
 pub(crate) fn put_plain(places: &mut NodePlaces, entry: &Entry) -> Result<bool, OutOfMemory>
     requires { is_kind entry.now.key.kind kinds.Node ≡ true }
-    ensures ok { IfOk result (λ put. (others : ObjectSet) → joined places.new others
-        ≡ cond put (folded (joined places.old others) entry.now) (joined places.old others)) }
+    ensures ok { IfOk result (λ put. (others : ObjectSet) → joined_objects places.new others
+        ≡ cond put (folded (joined_objects places.old others) entry.now) (joined_objects places.old others)) }
     ensures err { OnErr result (places.new ≡ places.old) }
 {
     let key = entry.key;

@@ -18,7 +18,7 @@ use Rattle.table_versions.specs.Versions.{after, tables_of, version_of}
 use Rattle.table_versions.specs.declared.answers.Answer.{Answer}
 use Rattle.table_versions.proofs.Rounds.{begins_trans}
 use Rattle.reader_rounds.specs.Rounds.{Climbs, answer_of, answers_of}
-use Rattle.reader_rounds.specs.Settling.{answered, settled, settled_all}
+use Rattle.reader_rounds.specs.Settling.{answered, last_or_given, all_last_or_given}
 use Rattle.reader_rounds.proofs.RoundLaws.{answers_begin}
 
 -- a beginning of a list is its front
@@ -38,7 +38,7 @@ cut last own = min (length own.log) (length last.log)
 module _ (style : StyleOf) (front last : FrontOf) (ours : Begins front last) (tables : TableMap) (version : ℕ)
     (tables_are : tables ≡ tables_of last) (version_is : version ≡ version_of last) where
   abbrev settles : Query → Answer → Answer
-  settles query given = settled style tables version query given
+  settles query given = last_or_given style tables version query given
 
   -- the last version
   whole_log : take (length last.log) last.log ≡ last.log
@@ -90,7 +90,7 @@ module _ (style : StyleOf) (front last : FrontOf) (ours : Begins front last) (ta
     pub record IsSettled (queries : List Query) (round : List Answer) (from to : ℕ) : Type 0 where
       pub numbers : List ℕ
       pub whole : length numbers ≡ length queries
-      pub given : settled_all style tables version queries round ≡ answers_of style last queries numbers
+      pub given : all_last_or_given style tables version queries round ≡ answers_of style last queries numbers
       pub climbs : Climbs from to numbers
 
     -- what is given of a round
@@ -121,7 +121,7 @@ module _ (style : StyleOf) (front last : FrontOf) (ours : Begins front last) (ta
   pub settled_last : (told from to : FrontOf) (queries : List Query) (round : List Answer) → (0 < length round → Begins last told)
       → Begins front from
       → AreAnswers style told from to queries round → length round ≡ length queries
-      → settled_all style tables version queries round ≡ map (answer_of style last (length last.log)) queries
+      → all_last_or_given style tables version queries round ≡ map (answer_of style last (length last.log)) queries
   settled_last told from to [] [] tied behind answers whole = refl
   settled_last told from to (query ∷ queries) [] tied behind answers whole = absurd (omega (arith, whole))
   settled_last told from to [] (given ∷ round) tied behind answers whole = absurd answers

@@ -12,7 +12,7 @@ use Rattle.table_versions.specs.declared.answers.Answer.{Answer}
 use Rattle.table_versions.proofs.Rounds.{begins_trans}
 use Rattle.reader_rounds.specs.Asking.{AreAnswered, AreRounds, begin_of}
 use Rattle.reader_rounds.specs.Rounds.{AreServed, Climbs, answer_of, answers_of}
-use Rattle.reader_rounds.specs.Settling.{HasLength, answered, settled_all, shut_rounds}
+use Rattle.reader_rounds.specs.Settling.{HasLength, answered, all_last_or_given, shut_rounds}
 use Rattle.reader_rounds.proofs.Climbing.{climbs_append, climbs_same_all}
 use Rattle.reader_rounds.proofs.Replying.{cut, last_answer, prefix_length, settled_last, settled_round, tied_by_last}
 use Rattle.reader_rounds.proofs.RoundLaws.{answers_begin, rounds_begin}
@@ -36,7 +36,7 @@ module _ (style : StyleOf) (front last : FrontOf) (ours : Begins front last) (ta
     earlier : List (List ℕ)
     many : length earlier ≡ length rounds
     whole : AllByRecursion (HasLength (length queries)) earlier
-    given : map (settled_all style tables version queries) rounds ≡ map (answers_of style last queries) earlier
+    given : map (all_last_or_given style tables version queries) rounds ≡ map (answers_of style last queries) earlier
     climbs : Climbs from to (flat_map (λ (round : List ℕ). round) earlier)
 
   settled_rounds : (told top from to : FrontOf) (rounds : List (List Answer)) → (0 < length queries → Begins last top) → Begins front from
@@ -63,7 +63,7 @@ module _ (style : StyleOf) (front last : FrontOf) (ours : Begins front last) (ta
 
   -- a reader that was let in each time
   pub served_open : (count : ℕ) (rounds : List (List Answer)) → AreAnswered style front last queries count rounds
-      → AreServed style last queries count (map (settled_all style tables version queries) rounds)
+      → AreServed style last queries count (map (all_last_or_given style tables version queries) rounds)
   served_open count rounds own =
       let behind : Begins front own.between = rounds_begin style front front own.between queries own.earlier own.before in
       let up : Begins own.between own.to = answers_begin style own.told own.between own.to queries own.final own.answers in
@@ -72,7 +72,7 @@ module _ (style : StyleOf) (front last : FrontOf) (ours : Begins front last) (ta
       let all = settled_rounds front own.to front own.between own.earlier tied (begins_itself front) up own.before in
       let final = settled_last style front last ours tables version tables_are version_is own.told own.between own.to queries own.final
       own.tied behind own.answers own.whole in
-      let settles = settled_all style tables version queries in
+      let settles = all_last_or_given style tables version queries in
       record {
         earlier = all.earlier;
         many = all.many ∙ own.many;

@@ -15,14 +15,14 @@ abbrev pub answered : StyleOf → TableMap → (version : ℕ) → Query → Ans
 answered style tables version query = record { version = version; found = answer style tables query }
 
 -- an answer of a later version is taken over the last one
-abbrev pub settled : StyleOf → TableMap → (version : ℕ) → Query → Answer → Answer
-settled style tables version query given = if nat_lt version given.version then answered style tables version query else given
+abbrev pub last_or_given : StyleOf → TableMap → (version : ℕ) → Query → Answer → Answer
+last_or_given style tables version query given = if nat_lt version given.version then answered style tables version query else given
 
 -- and so are those of a round
-abbrev pub settled_all : StyleOf → TableMap → (version : ℕ) → List Query → List Answer → List Answer
-settled_all style tables version (query ∷ queries) (given ∷ round) =
-    settled style tables version query given ∷ settled_all style tables version queries round
-settled_all style tables version _ _ = []
+abbrev pub all_last_or_given : StyleOf → TableMap → (version : ℕ) → List Query → List Answer → List Answer
+all_last_or_given style tables version (query ∷ queries) (given ∷ round) =
+    last_or_given style tables version query given ∷ all_last_or_given style tables version queries round
+all_last_or_given style tables version _ _ = []
 
 -- the same round so many times, and once more
 abbrev pub shut_rounds : {A : Type 0} → ℕ → A → List A

@@ -1,7 +1,7 @@
 //! What is given of the answers of a reader, once the last version is known.
 ghost use Rattle.std.specs.Prelude.{◌≡◌, ◌++◌, ◌∷◌, [], IfOk, length, map};
 ghost use Rattle.std.specs.List.{AllByRecursion};
-ghost use Rattle.reader_rounds.specs.Settling.{HasLength, answered, settled, settled_all, shut_rounds};
+ghost use Rattle.reader_rounds.specs.Settling.{HasLength, answered, last_or_given, all_last_or_given, shut_rounds};
 
 use map_query::{Query, answer};
 use osm_base::{Items, OutOfMemory, Tables};
@@ -22,7 +22,7 @@ pub(crate) fn settle_rounds(
     rounds: Rounds,
 ) -> Result<Rounds, OutOfMemory>
     requires whole { AllByRecursion (HasLength (length queries.now)) rounds }
-    ensures settled { IfOk result (λ given. given ≡ map (settled_all style.now tables.now version queries.now) rounds) }
+    ensures last_or_given { IfOk result (λ given. given ≡ map (all_last_or_given style.now tables.now version queries.now) rounds) }
 {
     let mut given = Items::new(alloc);
     for round in rounds.into_vec() {
@@ -41,19 +41,19 @@ fn settle_round(
     round: Answers,
 ) -> Result<Answers, OutOfMemory>
     requires whole { HasLength (length queries.now) round }
-    ensures settled { IfOk result (λ given. given ≡ settled_all style.now tables.now version queries.now round) }
+    ensures last_or_given { IfOk result (λ given. given ≡ all_last_or_given style.now tables.now version queries.now round) }
 {
     let mut given = Items::new(alloc);
     let mut index = 0;
     for own in round.into_vec() {
-        given.push(settle(alloc, style, tables, version, &queries[index], own)?)?;
+        given.push(last_or_given(alloc, style, tables, version, &queries[index], own)?)?;
         index += 1;
     }
     Ok(given)
 }
 
 /// One answer.
-fn settle(
+fn last_or_given(
     alloc: Global,
     style: &Style,
     tables: &Tables,
@@ -61,7 +61,7 @@ fn settle(
     query: &Query,
     given: Answer,
 ) -> Result<Answer, OutOfMemory>
-    ensures settled { IfOk result (λ own. own ≡ settled style.now tables.now version query.now given) }
+    ensures last_or_given { IfOk result (λ own. own ≡ last_or_given style.now tables.now version query.now given) }
 {
     if version < given.version {
         return answer_last(alloc, style, tables, version, query);

@@ -7,7 +7,7 @@ ghost use Rattle.ring_nest.specs.Opening.{OpensIn, overlaps as overlaps_slab, wo
 use crate::band::Band;
 use crate::edge::Edge;
 use crate::edges::spans;
-use crate::row::{are_west, row_of};
+use crate::row::{are_west, band_row};
 use crate::slabs::middle_of;
 use osm_base::OutOfMemory;
 use std::alloc::Global;
@@ -74,8 +74,8 @@ fn open_across(
     if minus.len() != plus.len() {
         return Ok(false);
     }
-    let minus = row_of(band, Vec::from_slice(alloc, minus)?);
-    let plus = row_of(band, Vec::from_slice(alloc, plus)?);
+    let minus = band_row(band, Vec::from_slice(alloc, minus)?);
+    let plus = band_row(band, Vec::from_slice(alloc, plus)?);
     let edges = weave(alloc, &minus.edges, &plus.edges)?;
     Ok(are_west(band, &edges))
 }

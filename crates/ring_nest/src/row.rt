@@ -78,7 +78,7 @@ pub(crate) fn count_each(edges: &[Edge], spot: Spot) -> usize
 }
 
 /// The row of edges that go over a slab.
-pub(crate) fn row_of(band: Band, edges: Vec<Edge>) -> Row
+pub(crate) fn band_row(band: Band, edges: Vec<Edge>) -> Row
     requires edges { AllByRecursion (Spans band.low band.high) edges.items }
     ensures row { IsRow band.low band.high result }
     ensures len { length result.edges.items ≡ length edges.items }

@@ -6,7 +6,7 @@ ghost use Rattle.ring_nest.specs.Slabs.{AreSlabs, Counts, count_in, is_across, i
 use crate::band::Band;
 use crate::edge::Edge;
 use crate::edges::spans;
-use crate::row::{Row, count_each, row_of};
+use crate::row::{Row, band_row, count_each};
 use crate::spot::Spot;
 use osm_base::OutOfMemory;
 use std::alloc::Global;
@@ -146,7 +146,7 @@ pub(crate) fn slabs_of(
         edges.shrink_to_fit();
         return Ok(Slabs::Few(edges));
     }
-    let row = row_of(band, across(alloc, low, high, &edges)?);
+    let row = band_row(band, across(alloc, low, high, &edges)?);
     if high - low < 2 {
         return Ok(Slabs::Slab(
             row,

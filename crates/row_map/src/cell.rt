@@ -5,7 +5,7 @@ ghost use Rattle.osm_base.specs.declared.values.row.Cell.TheVariants as cells;
 ghost use Rattle.row_rules.specs.Cell as spec;
 ghost use Rattle.row_rules.specs.Material.{selecting_among};
 
-use crate::number::number_of;
+use crate::number::whole_number;
 use crate::relations::Relations;
 use crate::tags_text::tags_text;
 use crate::values::selected_cell;
@@ -24,7 +24,7 @@ fn int_cell(number: i64) -> Cell
 fn number_cell(value: &str) -> Cell
     ensures cell { result ≡ spec.value_cell true (chars value.now) }
 {
-    match number_of(value.as_bytes()) {
+    match whole_number(value.as_bytes()) {
         Some(number) => int_cell(number),
         None => Cell::Null,
     }

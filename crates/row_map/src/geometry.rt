@@ -5,7 +5,7 @@ ghost use Rattle.osm_base.specs.declared.values.row.Geometry.TheVariants as shap
 ghost use Rattle.osm_base.specs.declared.values.object.Object.{Object};
 ghost use Rattle.osm_base.specs.values.Key.{KeyOf};
 ghost use Rattle.osm_base.specs.values.Place.{PlaceOf};
-ghost use Rattle.piece_ends.specs.Joins.{joined};
+ghost use Rattle.piece_ends.specs.Joins.{joined_lines};
 ghost use Rattle.piece_ends.specs.Points.{line};
 ghost use Rattle.row_rules.specs.Shape as spec;
 ghost use Rattle.row_rules.specs.Wanted as wanted;
@@ -83,7 +83,7 @@ fn relation_lines<L: Lookup>(
     lookup: &L,
     members: &[Member],
 ) -> Result<Option<Geometry>, OutOfMemory>
-    ensures shape { IfOk result (λ found. found ≡ spec.some_lines (joined (spec.pieces (L.known lookup.now).place (L.known lookup.now).object members.now))) }
+    ensures shape { IfOk result (λ found. found ≡ spec.some_lines (joined_lines (spec.pieces (L.known lookup.now).place (L.known lookup.now).object members.now))) }
 {
     let pieces = pieces_of(alloc, lookup, members)?;
     let lines = join_lines(alloc, &pieces)?;

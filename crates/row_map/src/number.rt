@@ -10,8 +10,8 @@ ghost use Rattle.row_rules.specs.Cell.{are_digits, unsigned};
 use row_rules::{MAX_DIGITS, MINUS};
 
 /// The whole number that bytes spell. `None`: they are no optional minus and from one to `MAX_DIGITS` digits.
-pub(crate) fn number_of(text: &[u8]) -> Option<i64>
-    ensures number { result ≡ spec.number_of text.now }
+pub(crate) fn whole_number(text: &[u8]) -> Option<i64>
+    ensures number { result ≡ spec.whole_number text.now }
     ensures fits { IfSome result (FitsSigned w64) }
 {
     match text {

@@ -68,7 +68,7 @@ fn distinct(values: Vec<&str>) -> Vec<&str>
 }
 
 /// A value and others behind it, each behind a comma.
-fn joined(alloc: Global, first: &str, rest: &[&str]) -> Result<Text, OutOfMemory>
+fn joined_values(alloc: Global, first: &str, rest: &[&str]) -> Result<Text, OutOfMemory>
     ensures text { IfOk result (λ text. text ≡ chars (join_with_byte COMMA (first.now ∷ map (λ value. value.now) rest.now))) }
 {
     let mut text = String::from_str(alloc, first)?;
@@ -85,7 +85,7 @@ fn joined_cell(alloc: Global, values: &[&str]) -> Result<Cell, OutOfMemory>
 {
     match values {
         [] => Ok(Cell::Null),
-        [first, rest @ ..] => Ok(Cell::Text(joined(alloc, first, rest)?)),
+        [first, rest @ ..] => Ok(Cell::Text(joined_values(alloc, first, rest)?)),
     }
 }
 

@@ -20,7 +20,7 @@ use Rattle.style_read.specs.declared.style.Source.{Source}
 use Rattle.style_read.specs.declared.style.Source.TheVariants as sources
 use Rattle.style_read.specs.declared.style.TableDef.{TableDef}
 use Rattle.style_read.specs.Style.{StyleOf}
-use Rattle.piece_ends.specs.Joins.{joined}
+use Rattle.piece_ends.specs.Joins.{joined_lines}
 use Rattle.piece_ends.specs.Points.{line, line_through}
 use Rattle.row_rules.specs.Agree.{Agree, IsSameWay, SamePlaces, SameNodes, SameWays, Suffices}
 use Rattle.row_rules.specs.Cell.{cell_from, cell_of}
@@ -153,7 +153,7 @@ module _ (one other : Material) where
   geometry-same sources.Relation (objects.Node own tags) nodes ways = refl
   geometry-same sources.Relation (objects.Way ids tags) nodes ways = refl
   geometry-same sources.Relation (objects.Relation members tags) nodes ways =
-      ap (λ found. some_lines (joined found)) (lines-same (ways_among members) ways)
+      ap (λ found. some_lines (joined_lines found)) (lines-same (ways_among members) ways)
 
 -- the row of an object in a table
 row_of-same : (selections : List Selection) (one other : Material) (table : TableDef) (key : KeyOf) (object : Object)

@@ -34,15 +34,15 @@ abbrev pub unsigned : List ℕ → Option ℕ
 unsigned text = if are_digits text then Some (digits_value 10 text) else None
 
 -- the whole number that bytes spell: an optional minus and from one to `MAX_DIGITS` digits
-abbrev pub number_of : List ℕ → Option ℤ
-number_of text =
+abbrev pub whole_number : List ℕ → Option ℤ
+whole_number text =
     if is_negative text then option_map_or (λ n. Some (neg_ℤ (pos n))) (unsigned (drop 1 text)) None
     else option_map_or (λ n. Some (pos n)) (unsigned text) None
 
 -- the cell of a tag's value, as a text or as a whole number
 abbrev pub value_cell : Bool → List ℕ → Cell
 value_cell false value = cells.Text value
-value_cell true value = option_map_or cells.Int (number_of (encode_utf8_all value)) cells.Null
+value_cell true value = option_map_or cells.Int (whole_number (encode_utf8_all value)) cells.Null
 
 -- the members of a JSON object: keys and values in UTF-8, by rising keys
 abbrev pub members_of : TagPairs → Members

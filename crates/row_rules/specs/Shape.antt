@@ -18,7 +18,7 @@ use Rattle.osm_base.specs.values.Place.{PlaceOf}
 use Rattle.osm_base.specs.values.Tags.{TagMap}
 use Rattle.style_read.specs.declared.style.Source.{Source}
 use Rattle.style_read.specs.declared.style.Source.TheVariants as sources
-use Rattle.piece_ends.specs.Joins.{joined}
+use Rattle.piece_ends.specs.Joins.{joined_lines}
 use Rattle.piece_ends.specs.Points.{line}
 use Rattle.piece_ends.specs.Rings.{rings}
 use Rattle.lanes_geo.specs.Nesting.{nested}
@@ -75,5 +75,5 @@ geometry_of place object sources.Node (Node own tags) = option_map shapes.Point 
 geometry_of place object sources.Way (Way nodes tags) = option_map shapes.Line (line place nodes)
 geometry_of place object sources.Area (Way nodes tags) = if bounds_area nodes then area (option_to_list (line place nodes)) else None
 geometry_of place object sources.Area (Relation members tags) = if is_area tags then area (pieces place object members) else None
-geometry_of place object sources.Relation (Relation members tags) = some_lines (joined (pieces place object members))
+geometry_of place object sources.Relation (Relation members tags) = some_lines (joined_lines (pieces place object members))
 geometry_of _ _ _ _ = None

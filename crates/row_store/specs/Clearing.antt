@@ -11,7 +11,7 @@ use Rattle.bucket_store.specs.Buckets.{bucket_count}
 use Rattle.bucket_store.specs.Image.{Has, Image, IsSoundAnswer, OnlyLooks, bucket_chain}
 use Rattle.bucket_store.specs.Transaction.{Content, IsBad, IsOpenStore, chains_of, has_refused}
 use Rattle.bucket_store.specs.declared.buckets.Buckets.{Buckets}
-use Rattle.value_bytes.specs.StoreMap.{number_of}
+use Rattle.value_bytes.specs.StoreMap.{map_number}
 use Rattle.value_bytes.specs.declared.store_map.StoreMap.TheVariants.{NodeRows, OtherRows}
 use Rattle.row_store.specs.Loading.{Looks}
 
@@ -25,7 +25,7 @@ without_map which image = record {
 
 -- a store with nothing in the two maps of rows
 abbrev pub without_rows : Image → Image
-without_rows image = without_map (number_of OtherRows) (without_map (number_of NodeRows) image)
+without_rows image = without_map (map_number OtherRows) (without_map (map_number NodeRows) image)
 
 -- a call that empties a map may be refused so: one of its buckets cannot be read
 abbrev pub ClearsMap : {D T : Type 0} {g : Ghosts D} → List (List ℕ) → Buckets D g → ℕ → Result T StoreFault → Type 0
@@ -36,7 +36,7 @@ ClearsMap pages buckets which (Err _) = Unit {0}
 
 -- and so may one that empties both
 abbrev pub ClearsRows : {D T : Type 0} {g : Ghosts D} → List (List ℕ) → Buckets D g → Result T StoreFault → Type 0
-ClearsRows pages buckets result = ClearsMap pages buckets (number_of NodeRows) result ⊎ ClearsMap pages buckets (number_of OtherRows) result
+ClearsRows pages buckets result = ClearsMap pages buckets (map_number NodeRows) result ⊎ ClearsMap pages buckets (map_number OtherRows) result
 
 -- of a map these keys are gone, no other key has become another, and all else is as it was
 pub record Without (which : ℕ) (Part : ℕ → Type 0) (old new : Image) : Type 0 where

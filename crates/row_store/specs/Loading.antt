@@ -19,7 +19,7 @@ use Rattle.bucket_store.specs.Transaction.{chains_of, has_refused}
 use Rattle.bucket_store.specs.declared.buckets.Buckets.{Buckets}
 use Rattle.style_read.specs.declared.style.TableDef.{TableDef}
 use Rattle.row_store.specs.Rows.{AreRows, rows_bytes}
-use Rattle.value_bytes.specs.StoreMap.{number_of}
+use Rattle.value_bytes.specs.StoreMap.{map_number}
 use Rattle.value_bytes.specs.declared.store_map.StoreMap.{StoreMap}
 use Rattle.value_bytes.specs.declared.store_map.StoreMap.TheVariants.{NodeRows}
 
@@ -44,7 +44,7 @@ with_all wanted key (row ∷ rows) tables = with_wanted wanted key row (with_all
 
 -- the key whose rows a map has under a number
 abbrev pub key_of : ℕ → ℕ → KeyOf
-key_of which number = if nat_eq which (number_of NodeRows) then record { kind = kinds.Node; id = number } else
+key_of which number = if nat_eq which (map_number NodeRows) then record { kind = kinds.Node; id = number } else
     (if nat_eq (number % 2) 0 then record { kind = kinds.Way; id = number / 2 } else record { kind = kinds.Relation; id = number / 2 })
 
 abbrev pub spot_at : ℕ → ℕ → ℕ → SpotOf
@@ -72,8 +72,8 @@ pub record AreRowsOf (definitions : List TableDef) (which number : ℕ) (bytes :
 
 -- so are all that a map has
 abbrev pub HasOnlyRows : List TableDef → StoreMap → Image → Type 0
-HasOnlyRows definitions map_of image = (number : ℕ) (bytes : List ℕ) → map.get (image.maps (number_of map_of)) number ≡ Some bytes
-    → AreRowsOf definitions (number_of map_of) number bytes
+HasOnlyRows definitions map_of image = (number : ℕ) (bytes : List ℕ) → map.get (image.maps (map_number map_of)) number ≡ Some bytes
+    → AreRowsOf definitions (map_number map_of) number bytes
 
 -- all that a map has tells rows
 abbrev pub AreTold : List TableDef → Option ℕ → ℕ → RowsBySpot → BucketMap → Type 0
@@ -81,7 +81,7 @@ AreTold definitions wanted which rows values = (number : ℕ) (bytes : List ℕ)
     → IsTold definitions wanted which rows number bytes
 
 abbrev pub TellsRows : List TableDef → Option ℕ → StoreMap → RowsBySpot → Image → Type 0
-TellsRows definitions wanted map rows image = AreTold definitions wanted (number_of map) rows (image.maps (number_of map))
+TellsRows definitions wanted map rows image = AreTold definitions wanted (map_number map) rows (image.maps (map_number map))
 
 -- at each spot stands its row or none
 abbrev pub IsWithin : RowsBySpot → TableMap → Type 0

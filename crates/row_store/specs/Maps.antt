@@ -2,9 +2,9 @@
 -- relations in another, by twice the id of a way, and twice the id of a relation and 1.
 use Rattle.std.specs.Prelude.{ℕ}
 use Rattle.osm_base.specs.declared.values.key.Kind.{Kind}
-use Rattle.value_bytes.specs.StoreMap.{number_of}
+use Rattle.value_bytes.specs.StoreMap.{map_number}
 use Rattle.store_maps.specs.Asked.{row_map}
 
 -- the number of the map
 abbrev pub map_of : Kind → ℕ
-map_of kind = number_of (row_map kind)
+map_of kind = map_number (row_map kind)

@@ -14,7 +14,7 @@ use Rattle.page_journal.specs.declared.fault.StoreFault.{StoreFault}
 use Rattle.page_journal.specs.declared.fault.StoreFault.TheVariants.{BadStore}
 use Rattle.style_read.specs.declared.style.TableDef.{TableDef}
 use Rattle.value_bytes.specs.Maps.{HoldsMap, ReadAs}
-use Rattle.value_bytes.specs.StoreMap.{number_of}
+use Rattle.value_bytes.specs.StoreMap.{map_number}
 use Rattle.value_bytes.specs.declared.store_map.StoreMap.TheVariants.{NodeRows, OtherRows}
 use Rattle.bucket_records.specs.Records.{BucketMap}
 use Rattle.bucket_store.specs.Image.{Has, Image, IsSoundAnswer, with_value}
@@ -31,8 +31,8 @@ use Rattle.row_store.specs.Rows.{AreRows, rows_bytes}
 pub record HoldsTables (definitions : List TableDef) (kept : ℕ → BucketMap) (tables : TableMap) : Type 0 where
   pub node_rows : RowMap
   pub other_rows : RowMap
-  pub nodes : HoldsMap rows_bytes (AreRows definitions) (kept (number_of NodeRows)) node_rows
-  pub others : HoldsMap rows_bytes (AreRows definitions) (kept (number_of OtherRows)) other_rows
+  pub nodes : HoldsMap rows_bytes (AreRows definitions) (kept (map_number NodeRows)) node_rows
+  pub others : HoldsMap rows_bytes (AreRows definitions) (kept (map_number OtherRows)) other_rows
   pub rows : (spot : SpotOf) → kept_row (record empty_maps { node_rows = node_rows; other_rows = other_rows }) spot ≡ finite.get tables spot
   pub ids : (spot : SpotOf) → IsSome (finite.get tables spot) → IsId spot.key.id
 

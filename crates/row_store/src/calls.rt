@@ -7,7 +7,7 @@ ghost use Rattle.row_store.specs.Maps.{map_of};
 ghost use Rattle.row_store.specs.Rows.{rows_bytes, AreRows};
 ghost use Rattle.store_maps.specs.Asked.{row_key, row_map};
 ghost use Rattle.store_maps.specs.Rows.{AreKept};
-ghost use Rattle.value_bytes.specs.StoreMap.{number_of};
+ghost use Rattle.value_bytes.specs.StoreMap.{map_number};
 
 use crate::{read_rows, rows_bytes};
 use bucket_store::{Buckets, refuse_value};
@@ -77,10 +77,10 @@ fn get_from<D: Disk>(
 ) -> Result<Option<TableRows>, StoreFault>
     requires ready { IsReady buckets.old }
     ensures answers { (pages : List (List ℕ)) → IsOpenStore pages buckets.old
-        → Gets rows_bytes (AreRows style.now.tables) pages buckets.old (number_of map) number result }
-    ensures value { GetsValue rows_bytes (AreRows style.now.tables) (number_of map) number buckets.old buckets.new result }
+        → Gets rows_bytes (AreRows style.now.tables) pages buckets.old (map_number map) number result }
+    ensures value { GetsValue rows_bytes (AreRows style.now.tables) (map_number map) number buckets.old buckets.new result }
     ensures kept { IfOk result (λ found. IfSome found (AreKept style.now.tables)) }
-    ensures touches { Touches (number_of map) number buckets.old buckets.new result }
+    ensures touches { Touches (map_number map) number buckets.old buckets.new result }
 {
     if let Err(fault) = buckets.bring(map, number) {
         return Err(fault);

@@ -8,7 +8,7 @@ ghost use Rattle.row_store.specs.Clearing.{ClearsRows, TakesOut, without_rows};
 ghost use Rattle.row_store.specs.Loading.{Among, Looks};
 ghost use Rattle.row_store.specs.Tables.{HoldsTables};
 ghost use Rattle.style_read.specs.declared.style.TableDef.{TableDef};
-ghost use Rattle.value_bytes.specs.StoreMap.{number_of};
+ghost use Rattle.value_bytes.specs.StoreMap.{map_number};
 
 use bucket_store::Buckets;
 use osm_base::Bytes;
@@ -38,7 +38,7 @@ pub fn clear<D: Disk>(buckets: &mut Buckets<'_, D>) -> Result<(), StoreFault>
 // Takes out all that a map has, bucket by bucket.
 fn clear_map<D: Disk>(buckets: &mut Buckets<'_, D>, map: StoreMap) -> Result<(), StoreFault>
     requires ready { IsReady buckets.old }
-    ensures out { TakesOut (number_of map) (λ key. Unit {0}) buckets.old buckets.new result }
+    ensures out { TakesOut (map_number map) (λ key. Unit {0}) buckets.old buckets.new result }
 {
     let count = buckets.root().buckets;
     let mut bucket = 0;
@@ -58,7 +58,7 @@ fn clear_bucket<D: Disk>(
     bucket: u64,
 ) -> Result<(), StoreFault>
     requires ready { IsReady buckets.old }
-    ensures out { TakesOut (number_of map) (λ key. key % bucket_count (chains_of buckets.old) ≡ bucket % bucket_count (chains_of buckets.old)) buckets.old buckets.new result }
+    ensures out { TakesOut (map_number map) (λ key. key % bucket_count (chains_of buckets.old) ≡ bucket % bucket_count (chains_of buckets.old)) buckets.old buckets.new result }
 {
     let records = match buckets.records(map, bucket) {
         Ok(records) => records,
@@ -77,7 +77,7 @@ fn remove_all<D: Disk>(
     records: &[(u64, Bytes)],
 ) -> Result<(), StoreFault>
     requires ready { IsReady buckets.old }
-    ensures out { TakesOut (number_of map) (Among records.now) buckets.old buckets.new result }
+    ensures out { TakesOut (map_number map) (Among records.now) buckets.old buckets.new result }
 {
     for (key, _) in records {
         if let Err(fault) = buckets.remove(map, *key) {

@@ -7,7 +7,7 @@ ghost use Rattle.value_bytes.specs.declared.fault.ValueFault.TheVariants as faul
 ghost use Rattle.bucket_store.specs.Image.{Has, Image, IsSoundAnswer};
 ghost use Rattle.bucket_store.specs.Transaction.{IsReady};
 ghost use Rattle.row_store.specs.Loading.{Among, AreRowsOf, Fills, HasOnlyRows, IsTold, Looks, LooksWithin, RowsBySpot, TellsRows, is_wanted, key_of, with_all, with_wanted};
-ghost use Rattle.value_bytes.specs.StoreMap.{number_of};
+ghost use Rattle.value_bytes.specs.StoreMap.{map_number};
 ghost use Rattle.value_bytes.specs.declared.store_map.StoreMap.TheVariants.{NodeRows, OtherRows};
 
 use crate::filling::Filled;
@@ -34,10 +34,10 @@ pub fn load<D: Disk>(
     requires ready { IsReady buckets.old }
     ensures nodes { OnOk result ((rest now : Image) (rows : RowsBySpot) → Has rest now buckets.old
         → TellsRows style.now.tables wanted NodeRows rows now → TellsRows style.now.tables wanted OtherRows rows now
-        → Fills (number_of NodeRows) rows (λ n. IsSome (finite.get (now.maps (number_of NodeRows)) n)) tables.old tables.new) }
+        → Fills (map_number NodeRows) rows (λ n. IsSome (finite.get (now.maps (map_number NodeRows)) n)) tables.old tables.new) }
     ensures others { OnOk result ((rest now : Image) (rows : RowsBySpot) → Has rest now buckets.old
         → TellsRows style.now.tables wanted NodeRows rows now → TellsRows style.now.tables wanted OtherRows rows now
-        → Fills (number_of OtherRows) rows (λ n. IsSome (finite.get (now.maps (number_of OtherRows)) n)) tables.old tables.new) }
+        → Fills (map_number OtherRows) rows (λ n. IsSome (finite.get (now.maps (map_number OtherRows)) n)) tables.old tables.new) }
     // A record that does not spell rows is a refusal, and is never passed over.
     ensures spelled { OnOk result ((rest now : Image) → Has rest now buckets.old
         → HasOnlyRows style.now.tables NodeRows now × HasOnlyRows style.now.tables OtherRows now) }
@@ -60,10 +60,10 @@ pub fn load_sorted<D: Disk>(
     requires ready { IsReady buckets.old }
     ensures nodes { IfOk result (λ found. (rest now : Image) (rows : RowsBySpot) → Has rest now buckets.old
         → TellsRows style.now.tables wanted NodeRows rows now → TellsRows style.now.tables wanted OtherRows rows now
-        → Fills (number_of NodeRows) rows (λ n. IsSome (finite.get (now.maps (number_of NodeRows)) n)) finite.empty found) }
+        → Fills (map_number NodeRows) rows (λ n. IsSome (finite.get (now.maps (map_number NodeRows)) n)) finite.empty found) }
     ensures others { IfOk result (λ found. (rest now : Image) (rows : RowsBySpot) → Has rest now buckets.old
         → TellsRows style.now.tables wanted NodeRows rows now → TellsRows style.now.tables wanted OtherRows rows now
-        → Fills (number_of OtherRows) rows (λ n. IsSome (finite.get (now.maps (number_of OtherRows)) n)) finite.empty found) }
+        → Fills (map_number OtherRows) rows (λ n. IsSome (finite.get (now.maps (map_number OtherRows)) n)) finite.empty found) }
     // A record that does not spell rows is a refusal, and is never passed over.
     ensures spelled { OnOk result ((rest now : Image) → Has rest now buckets.old
         → HasOnlyRows style.now.tables NodeRows now × HasOnlyRows style.now.tables OtherRows now) }
@@ -97,10 +97,10 @@ fn add_maps<D: Disk, F: Filled>(
     requires ready { IsReady buckets.old }
     ensures nodes { OnOk result ((rest now : Image) (rows : RowsBySpot) → Has rest now buckets.old
         → TellsRows style.now.tables wanted NodeRows rows now → TellsRows style.now.tables wanted OtherRows rows now
-        → Fills (number_of NodeRows) rows (λ n. IsSome (finite.get (now.maps (number_of NodeRows)) n)) (F.tables tables.old) (F.tables tables.new)) }
+        → Fills (map_number NodeRows) rows (λ n. IsSome (finite.get (now.maps (map_number NodeRows)) n)) (F.tables tables.old) (F.tables tables.new)) }
     ensures others { OnOk result ((rest now : Image) (rows : RowsBySpot) → Has rest now buckets.old
         → TellsRows style.now.tables wanted NodeRows rows now → TellsRows style.now.tables wanted OtherRows rows now
-        → Fills (number_of OtherRows) rows (λ n. IsSome (finite.get (now.maps (number_of OtherRows)) n)) (F.tables tables.old) (F.tables tables.new)) }
+        → Fills (map_number OtherRows) rows (λ n. IsSome (finite.get (now.maps (map_number OtherRows)) n)) (F.tables tables.old) (F.tables tables.new)) }
     // A record that does not spell rows is a refusal, and is never passed over.
     ensures spelled { OnOk result ((rest now : Image) → Has rest now buckets.old
         → HasOnlyRows style.now.tables NodeRows now × HasOnlyRows style.now.tables OtherRows now) }
@@ -130,7 +130,7 @@ fn add_map<D: Disk, F: Filled>(
     requires ready { IsReady buckets.old }
     ensures filled { OnOk result ((rest now : Image) (rows : RowsBySpot) → Has rest now buckets.old
         → TellsRows style.now.tables wanted map rows now
-        → Fills (number_of map) rows (λ n. IsSome (finite.get (now.maps (number_of map)) n)) (F.tables tables.old) (F.tables tables.new)) }
+        → Fills (map_number map) rows (λ n. IsSome (finite.get (now.maps (map_number map)) n)) (F.tables tables.old) (F.tables tables.new)) }
     ensures spelled { OnOk result ((rest now : Image) → Has rest now buckets.old → HasOnlyRows style.now.tables map now) }
     ensures sound { (rest now : Image) (rows : RowsBySpot) → Has rest now buckets.old
         → TellsRows style.now.tables wanted map rows now → IsSoundAnswer result }
@@ -160,10 +160,10 @@ fn add_bucket<D: Disk, F: Filled>(
     requires ready { IsReady buckets.old }
     ensures filled { OnOk result ((rest now : Image) (rows : RowsBySpot) → Has rest now buckets.old
         → TellsRows style.now.tables wanted map rows now
-        → Fills (number_of map) rows (λ n. IsSome (finite.get (now.maps (number_of map)) n) × (n % now.root.buckets ≡ bucket % now.root.buckets)) (F.tables tables.old) (F.tables tables.new)) }
+        → Fills (map_number map) rows (λ n. IsSome (finite.get (now.maps (map_number map)) n) × (n % now.root.buckets ≡ bucket % now.root.buckets)) (F.tables tables.old) (F.tables tables.new)) }
     ensures spelled { OnOk result ((rest now : Image) → Has rest now buckets.old → (number : ℕ) (bytes : List ℕ)
-        → finite.get (now.maps (number_of map)) number ≡ Some bytes → number % now.root.buckets ≡ bucket % now.root.buckets
-        → AreRowsOf style.now.tables (number_of map) number bytes) }
+        → finite.get (now.maps (map_number map)) number ≡ Some bytes → number % now.root.buckets ≡ bucket % now.root.buckets
+        → AreRowsOf style.now.tables (map_number map) number bytes) }
     ensures sound { (rest now : Image) (rows : RowsBySpot) → Has rest now buckets.old
         → TellsRows style.now.tables wanted map rows now → IsSoundAnswer result }
     ensures looks { LooksWithin buckets.old buckets.new result }
@@ -197,10 +197,10 @@ fn add_copied<D: Disk, F: Filled>(
     requires ready { IsReady buckets.old }
     ensures filled { OnOk result ((rest now : Image) (rows : RowsBySpot) → Has rest now buckets.old
         → TellsRows style.now.tables wanted map rows now
-        → Fills (number_of map) rows (λ n. IsSome (finite.get (now.maps (number_of map)) n) × (n % now.root.buckets ≡ bucket % now.root.buckets)) (F.tables tables.old) (F.tables tables.new)) }
+        → Fills (map_number map) rows (λ n. IsSome (finite.get (now.maps (map_number map)) n) × (n % now.root.buckets ≡ bucket % now.root.buckets)) (F.tables tables.old) (F.tables tables.new)) }
     ensures spelled { OnOk result ((rest now : Image) → Has rest now buckets.old → (number : ℕ) (bytes : List ℕ)
-        → finite.get (now.maps (number_of map)) number ≡ Some bytes → number % now.root.buckets ≡ bucket % now.root.buckets
-        → AreRowsOf style.now.tables (number_of map) number bytes) }
+        → finite.get (now.maps (map_number map)) number ≡ Some bytes → number % now.root.buckets ≡ bucket % now.root.buckets
+        → AreRowsOf style.now.tables (map_number map) number bytes) }
     ensures sound { (rest now : Image) (rows : RowsBySpot) → Has rest now buckets.old
         → TellsRows style.now.tables wanted map rows now → IsSoundAnswer result }
     ensures looks { LooksWithin buckets.old buckets.new result }
@@ -224,10 +224,10 @@ fn add_records<F: Filled>(
     records: &[(u64, Bytes)],
     tables: &mut F,
 ) -> Result<(), ValueFault>
-    ensures filled { OnOk result ((rows : RowsBySpot) → AllByRecursion (λ one. IsTold style.now.tables wanted (number_of map) rows one.0 one.1) records.now
-        → Fills (number_of map) rows (Among records.now) (F.tables tables.old) (F.tables tables.new)) }
-    ensures spelled { OnOk result (AllByRecursion (λ one. AreRowsOf style.now.tables (number_of map) one.0 one.1) records.now) }
-    ensures sound { (rows : RowsBySpot) → AllByRecursion (λ one. IsTold style.now.tables wanted (number_of map) rows one.0 one.1) records.now
+    ensures filled { OnOk result ((rows : RowsBySpot) → AllByRecursion (λ one. IsTold style.now.tables wanted (map_number map) rows one.0 one.1) records.now
+        → Fills (map_number map) rows (Among records.now) (F.tables tables.old) (F.tables tables.new)) }
+    ensures spelled { OnOk result (AllByRecursion (λ one. AreRowsOf style.now.tables (map_number map) one.0 one.1) records.now) }
+    ensures sound { (rows : RowsBySpot) → AllByRecursion (λ one. IsTold style.now.tables wanted (map_number map) rows one.0 one.1) records.now
         → IfErr result (λ fault. fault ≡ faults.OutOfMemory) }
 {
     for (number, bytes) in records {
@@ -255,10 +255,10 @@ fn add_lent<F: Filled>(
     records: &Records,
     tables: &mut F,
 ) -> Result<(), ValueFault>
-    ensures filled { OnOk result ((rows : RowsBySpot) → AllByRecursion (λ one. IsTold style.now.tables wanted (number_of map) rows one.0 one.1) records.now
-        → Fills (number_of map) rows (Among records.now) (F.tables tables.old) (F.tables tables.new)) }
-    ensures spelled { OnOk result (AllByRecursion (λ one. AreRowsOf style.now.tables (number_of map) one.0 one.1) records.now) }
-    ensures sound { (rows : RowsBySpot) → AllByRecursion (λ one. IsTold style.now.tables wanted (number_of map) rows one.0 one.1) records.now
+    ensures filled { OnOk result ((rows : RowsBySpot) → AllByRecursion (λ one. IsTold style.now.tables wanted (map_number map) rows one.0 one.1) records.now
+        → Fills (map_number map) rows (Among records.now) (F.tables tables.old) (F.tables tables.new)) }
+    ensures spelled { OnOk result (AllByRecursion (λ one. AreRowsOf style.now.tables (map_number map) one.0 one.1) records.now) }
+    ensures sound { (rows : RowsBySpot) → AllByRecursion (λ one. IsTold style.now.tables wanted (map_number map) rows one.0 one.1) records.now
         → IfErr result (λ fault. fault ≡ faults.OutOfMemory) }
 {
     let (mut place, mut rest) = records.at_mark(0);
@@ -283,10 +283,10 @@ fn add_record<F: Filled>(
     bytes: &[u8],
     tables: &mut F,
 ) -> Result<(), ValueFault>
-    ensures filled { OnOk result ((rows : RowsBySpot) → IsTold style.now.tables wanted (number_of map) rows number bytes.now
-        → Fills (number_of map) rows (λ n. number ≡ n) (F.tables tables.old) (F.tables tables.new)) }
-    ensures spelled { OnOk result (AreRowsOf style.now.tables (number_of map) number bytes.now) }
-    ensures sound { (rows : RowsBySpot) → IsTold style.now.tables wanted (number_of map) rows number bytes.now → IfErr result (λ fault. fault ≡ faults.OutOfMemory) }
+    ensures filled { OnOk result ((rows : RowsBySpot) → IsTold style.now.tables wanted (map_number map) rows number bytes.now
+        → Fills (map_number map) rows (λ n. number ≡ n) (F.tables tables.old) (F.tables tables.new)) }
+    ensures spelled { OnOk result (AreRowsOf style.now.tables (map_number map) number bytes.now) }
+    ensures sound { (rows : RowsBySpot) → IsTold style.now.tables wanted (map_number map) rows number bytes.now → IfErr result (λ fault. fault ≡ faults.OutOfMemory) }
 {
     let Some(key) = key_of(map, number) else {
         return Err(ValueFault::NotSpelled);
@@ -345,9 +345,9 @@ fn is_wanted(wanted: Option<u32>, table: u32) -> bool
 
 // The key whose rows a map has under a number. `None`: no key has that id.
 fn key_of(map: StoreMap, number: u64) -> Option<Key>
-    ensures key { IfSome result (λ key. key ≡ key_of (number_of map) number) }
-    ensures id { IfSome result (λ _. IsId (key_of (number_of map) number).id) }
-    ensures none { IsNone result → IsId (key_of (number_of map) number).id → ⊥ }
+    ensures key { IfSome result (λ key. key ≡ key_of (map_number map) number) }
+    ensures id { IfSome result (λ _. IsId (key_of (map_number map) number).id) }
+    ensures none { IsNone result → IsId (key_of (map_number map) number).id → ⊥ }
 {
     let (kind, id) = if matches!(map, StoreMap::NodeRows) {
         (Kind::Node, number)

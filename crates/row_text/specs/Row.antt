@@ -30,10 +30,10 @@ abbrev pub text_row : List ℕ → Geometry → Row
 text_row text geometry = record { cells = cells.Text text ∷ []; geometry = geometry }
 
 -- the number of an object of a kind with an id, in a table of areas or in another one
-abbrev pub number_of : Bool → Kind → ℕ → ℤ
-number_of true kinds.Relation id = neg_ℤ (pos id)
-number_of _ _ id = pos id
+abbrev pub signed_id : Bool → Kind → ℕ → ℤ
+signed_id true kinds.Relation id = neg_ℤ (pos id)
+signed_id _ _ id = pos id
 
 -- the number of the row of an object: its id, negated for a relation in a table of areas
 abbrev pub row_number : Bool → KeyOf → ℤ
-row_number of_areas key = number_of of_areas key.kind key.id
+row_number of_areas key = signed_id of_areas key.kind key.id

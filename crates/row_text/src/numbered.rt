@@ -7,7 +7,7 @@ ghost use Rattle.osm_base.specs.map.SpotTree.{rows_in};
 ghost use Rattle.osm_base.specs.values.KeyOrder.{key_cmp};
 ghost use Rattle.row_text.specs.Numbered.{by_number, HasEachOnce, IsBehind, IsInFront, key_of, rows_by_number, rows_of, seen};
 
-use crate::row::number_of;
+use crate::row::signed_id;
 use osm_base::{Key, Kind, MAX_ID, OutOfMemory, Row, Spot, Tables};
 use std::alloc::Global;
 use std::cmp::Ordering;
@@ -107,7 +107,7 @@ pub(crate) fn put_in_order(of_areas: bool, rows: &mut [KeyedRow])
     ensures order { map seen rows.new ≡ finite.entries (finite.from_entries {R = by_number of_areas} (map seen rows.old)) }
 {
     turn_relations(of_areas, rows);
-    settle(of_areas, rows);
+    sort_unless_rising(of_areas, rows);
 }
 
 /// Puts the relations of a table of areas, which stand behind the others, in front of them and turns their order.
@@ -123,7 +123,7 @@ fn turn_relations(of_areas: bool, rows: &mut [KeyedRow])
 }
 
 /// Sorts rows by their numbers and keys, if they do not stand in this order.
-fn settle(of_areas: bool, rows: &mut [KeyedRow])
+fn sort_unless_rising(of_areas: bool, rows: &mut [KeyedRow])
     requires { HasEachOnce of_areas (map seen rows.old) }
     ensures permutation { IsPermutation rows.old rows.new }
     ensures rising { T (is_sorted (by_number of_areas) (map seen rows.new)) }
@@ -160,6 +160,6 @@ fn sort(of_areas: bool, rows: &mut [KeyedRow])
 fn order(of_areas: bool, key: Key, other: Key) -> Ordering
     ensures order { result ≡ by_number of_areas key other }
 {
-    let numbers = number_of(of_areas, key).cmp(&number_of(of_areas, other));
+    let numbers = signed_id(of_areas, key).cmp(&signed_id(of_areas, other));
     numbers.then(key.cmp(&other))
 }

@@ -11,7 +11,7 @@ use crate::geometry::push_geometry;
 use osm_base::{Cell, Geometry, Key, Kind, OutOfMemory, Row};
 
 /// The number of the row of an object, in a table of areas or in another one.
-pub(crate) fn number_of(of_areas: bool, key: Key) -> i64
+pub(crate) fn signed_id(of_areas: bool, key: Key) -> i64
     ensures number { result ≡ row_number of_areas key }
 {
     let id = key.id as i64;

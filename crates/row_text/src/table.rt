@@ -8,7 +8,7 @@ ghost use Rattle.row_text.specs.Numbered.{by_number, rows_by_number, seen};
 ghost use Rattle.row_text.specs.Table.{has_areas, is_area, lines_of, number_in, table_text};
 
 use crate::numbered::{self, KeyedRow, rows_in_order};
-use crate::row::{number_of, push_row};
+use crate::row::{push_row, signed_id};
 use osm_base::{Key, OutOfMemory, Tables, Text};
 use std::alloc::Global;
 use style_read::{Source, Style};
@@ -17,7 +17,7 @@ use style_read::{Source, Style};
 pub fn row_number(style: &Style, table: u32, key: Key) -> i64
     ensures number { result ≡ number_in style.now table key }
 {
-    number_of(has_areas(style, table), key)
+    signed_id(has_areas(style, table), key)
 }
 
 /// The rows of a table by rising numbers; where two have one number, by rising keys.
@@ -62,7 +62,7 @@ fn push_rows(out: &mut String, of_areas: bool, rows: &[KeyedRow]) -> Result<(), 
     ensures lines { OnOk result (string_bytes out.new ≡ string_bytes out.old ++ lines_of of_areas (map seen rows.now)) }
 {
     for own in rows {
-        push_row(out, number_of(of_areas, own.key), own.row)?;
+        push_row(out, signed_id(of_areas, own.key), own.row)?;
     }
     Ok(())
 }

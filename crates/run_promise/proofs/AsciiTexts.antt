@@ -14,16 +14,16 @@ use Rattle.osm_base.specs.declared.bounds.limits.LimitKind.TheVariants as kinds
 use Rattle.osm_base.specs.values.Key.{KeyOf}
 use Rattle.opl_object.specs.declared.why.Why.{Why}
 use Rattle.opl_object.specs.declared.why.Why.TheVariants as causes
-use Rattle.opl_object.specs.Why.{number_of}
+use Rattle.opl_object.specs.Why.{cause_number}
 use Rattle.run_promise.specs.declared.fault.Fault.{Fault}
 use Rattle.run_promise.specs.declared.fault.Fault.TheVariants.{Usage, Malformed, BadStyle, BadBounds, BadQuery, BadFeed, Gap, Limit}
 use Rattle.run_promise.specs.declared.fault.Fault.TheVariants.{NotFormatted, NotEmpty, NotImported, AlreadyImported, OldFormat, Follower}
 use Rattle.run_promise.specs.declared.fault.Fault.TheVariants.{UnknownTable, BadStore, ReadFault, WriteFault, DiskFault, OutOfMemory}
 use Rattle.style_read.specs.declared.fault.StylePart.{StylePart}
 use Rattle.style_read.specs.declared.fault.StylePart.TheVariants as parts
-use Rattle.style_read.specs.Why.{number_of as style_number}
-use Rattle.map_query.specs.Fault.{number_of as query_number}
-use Rattle.delta_feed.specs.Why.{number_of as feed_number}
+use Rattle.style_read.specs.Why.{cause_number as style_number}
+use Rattle.map_query.specs.Fault.{cause_number as query_number}
+use Rattle.delta_feed.specs.Why.{cause_number as feed_number}
 use Rattle.run_promise.specs.Faults.{fault_text, kind_text, key_text, limit_text, order_text, part_text}
 
 IsAscii-cons : (byte : ℕ) (bytes : List ℕ) → byte < 128 → IsAscii bytes → IsAscii (byte ∷ bytes)
@@ -144,9 +144,9 @@ IsAscii-bad_style file number = IsAscii-append (codes "bad style file " ++ decim
 IsAscii-fault_text : (fault : Fault) → IsAscii (fault_text fault)
 IsAscii-fault_text Usage = IsAscii-words (codes "usage") refl
 IsAscii-fault_text (Malformed file line why) =
-    IsAscii-append (codes "malformed file " ++ decimal file ++ codes " line " ++ decimal line ++ codes " cause " ++ decimal (number_of why))
+    IsAscii-append (codes "malformed file " ++ decimal file ++ codes " line " ++ decimal line ++ codes " cause " ++ decimal (cause_number why))
     (order_text why)
-    (IsAscii-malformed file line (number_of why)) (IsAscii-order_text why)
+    (IsAscii-malformed file line (cause_number why)) (IsAscii-order_text why)
 IsAscii-fault_text (BadStyle file why part) =
     IsAscii-append (codes "bad style file " ++ decimal file ++ codes " cause " ++ decimal (style_number why) ++ codes " part ")
     (part_text part)

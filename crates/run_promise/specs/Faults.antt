@@ -7,12 +7,12 @@ use Rattle.osm_base.specs.declared.bounds.limits.LimitKind.TheVariants as kinds
 use Rattle.osm_base.specs.values.Key.{KeyOf}
 use Rattle.opl_object.specs.declared.why.Why.{Why}
 use Rattle.opl_object.specs.declared.why.Why.TheVariants.{Order}
-use Rattle.opl_object.specs.Why.{number_of}
-use Rattle.delta_feed.specs.Why.{number_of as feed_number}
+use Rattle.opl_object.specs.Why.{cause_number}
+use Rattle.delta_feed.specs.Why.{cause_number as feed_number}
 use Rattle.style_read.specs.declared.fault.StylePart.{StylePart}
 use Rattle.style_read.specs.declared.fault.StylePart.TheVariants as parts
-use Rattle.style_read.specs.Why.{number_of as style_number}
-use Rattle.map_query.specs.Fault.{number_of as query_number}
+use Rattle.style_read.specs.Why.{cause_number as style_number}
+use Rattle.map_query.specs.Fault.{cause_number as query_number}
 use Rattle.page_journal.specs.declared.fault.StoreFault.{StoreFault}
 use Rattle.page_journal.specs.declared.fault.StoreFault.TheVariants as stores
 use Rattle.run_promise.specs.declared.fault.Fault.{Fault}
@@ -105,7 +105,7 @@ part_text (parts.Table number) = codes "table " ++ decimal number
 abbrev pub fault_text : Fault → List ℕ
 fault_text Usage = codes "usage"
 fault_text (Malformed file line why) =
-    codes "malformed file " ++ decimal file ++ codes " line " ++ decimal line ++ codes " cause " ++ decimal (number_of why)
+    codes "malformed file " ++ decimal file ++ codes " line " ++ decimal line ++ codes " cause " ++ decimal (cause_number why)
     ++ order_text why
 fault_text (BadStyle file why part) =
     codes "bad style file " ++ decimal file ++ codes " cause " ++ decimal (style_number why) ++ codes " part " ++ part_text part

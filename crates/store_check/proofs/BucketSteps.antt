@@ -26,7 +26,7 @@ use Rattle.bucket_store.specs.Reads.{MayReadChain}
 use Rattle.bucket_store.specs.Transaction.{BringsBucket, Content, IsOpenStore, bucket_at, cached_of, chains_of}
 use Rattle.bucket_store.specs.declared.buckets.Buckets.{Buckets}
 use Rattle.bucket_store.specs.declared.cache.Cached.{Cached}
-use Rattle.value_bytes.specs.StoreMap.{number_of}
+use Rattle.value_bytes.specs.StoreMap.{map_number}
 use Rattle.value_bytes.specs.declared.store_map.StoreMap.{StoreMap}
 use Rattle.row_store.proofs.LookLaws.{looks_on, still_whole}
 use Rattle.store_check.specs.BadPage.{IsLoaded, IsRefusedAt, buckets_told}
@@ -42,7 +42,7 @@ bucket_is which bucket count low = let same : bucket % count ≡ bucket = mod-eq
 is_high : (which bucket : ℕ) → 16 ≤ bucket_chain which bucket
 is_high which bucket = omega arith
 
-is_chain : (map : StoreMap) (bucket count : ℕ) → bucket < count → count ≤ 65536 → IsChain (bucket_chain (number_of map) bucket)
+is_chain : (map : StoreMap) (bucket count : ℕ) → bucket < count → count ≤ 65536 → IsChain (bucket_chain (map_number map) bucket)
 is_chain map bucket count low few = let under = number_low map in omega (arith, low, few, under)
 
 -- what a bucket has that is not there, and of which nothing was written
@@ -139,58 +139,58 @@ module _ {D : Type 0} {g : Ghosts D} where
       subst (λ (n : ℕ). TouchesChain n old new result) (bucket_is which bucket (bucket_count (chains_of old)) low) touches
 
   module _ (map_of : StoreMap) (bucket : ℕ) (old : Buckets D g) (begun : IsBegun old) (low : bucket < bucket_count (chains_of old)) where
-    chain_so : IsChain (bucket_chain (number_of map_of) bucket)
+    chain_so : IsChain (bucket_chain (map_number map_of) bucket)
     chain_so = is_chain map_of bucket (bucket_count (chains_of old)) low (chains_of old).few
 
     -- it cannot be brought
-    pub unbrought : (new : Buckets D g) (fault : StoreFault) → BringsThere (number_of map_of) bucket old new (Err fault)
-        → TouchesChain {T = Unit {0}} (bucket_at old (number_of map_of) bucket) old new (Err fault)
-        → TellsPages (bucket_chain (number_of map_of) bucket) old new (Err fault)
+    pub unbrought : (new : Buckets D g) (fault : StoreFault) → BringsThere (map_number map_of) bucket old new (Err fault)
+        → TouchesChain {T = Unit {0}} (bucket_at old (map_number map_of) bucket) old new (Err fault)
+        → TellsPages (bucket_chain (map_number map_of) bucket) old new (Err fault)
     unbrought new fault brings touches =
-        let own = brings_at (number_of map_of) bucket old new (Err fault) low brings in
+        let own = brings_at (map_number map_of) bucket old new (Err fault) low brings in
         record {
           answers = λ pages was.
-              brought_told pages old begun was (bucket_chain (number_of map_of) bucket) fault (is_high (number_of map_of) bucket) chain_so
+              brought_told pages old begun was (bucket_chain (map_number map_of) bucket) fault (is_high (map_number map_of) bucket) chain_so
               (own.answers pages was);
           opens = touches.opens;
           looks = looks_err (Unit {0}) (List ℕ) old new fault
-              (looks_of (MayReadChain (bucket_at old (number_of map_of) bucket) old new) old new (Err fault) touches);
+              (looks_of (MayReadChain (bucket_at old (map_number map_of) bucket) old new) old new (Err fault) touches);
         }
 
-    module _ (mid new : Buckets D g) (done : Unit {0}) (brings : BringsThere (number_of map_of) bucket old mid (Ok done))
-        (touches : TouchesChain (bucket_at old (number_of map_of) bucket) old mid (Ok done)) where
-      own : BringsChain (bucket_chain (number_of map_of) bucket) old mid (Ok done)
-      own = brings_at (number_of map_of) bucket old mid (Ok done) low brings
+    module _ (mid new : Buckets D g) (done : Unit {0}) (brings : BringsThere (map_number map_of) bucket old mid (Ok done))
+        (touches : TouchesChain (bucket_at old (map_number map_of) bucket) old mid (Ok done)) where
+      own : BringsChain (bucket_chain (map_number map_of) bucket) old mid (Ok done)
+      own = brings_at (map_number map_of) bucket old mid (Ok done) low brings
 
       -- once it is there its pages are told
-      pub is_told : (ns : List ℕ) → ListsChainOf (bucket_chain (number_of map_of) bucket) mid new (Ok ns)
-          → TouchesChain (bucket_chain (number_of map_of) bucket) mid new (Ok ns)
-          → TellsPages (bucket_chain (number_of map_of) bucket) old new (Ok ns)
+      pub is_told : (ns : List ℕ) → ListsChainOf (bucket_chain (map_number map_of) bucket) mid new (Ok ns)
+          → TouchesChain (bucket_chain (map_number map_of) bucket) mid new (Ok ns)
+          → TellsPages (bucket_chain (map_number map_of) bucket) old new (Ok ns)
       is_told ns lists later =
-          let first = looks_of (MayReadChain (bucket_at old (number_of map_of) bucket) old mid) old mid (Ok done) touches in
-          let second = looks_of (MayReadChain (bucket_chain (number_of map_of) bucket) mid new) mid new (Ok ns) later in
+          let first = looks_of (MayReadChain (bucket_at old (map_number map_of) bucket) old mid) old mid (Ok done) touches in
+          let second = looks_of (MayReadChain (bucket_chain (map_number map_of) bucket) mid new) mid new (Ok ns) later in
           record {
             answers = λ pages was.
                 let had = own.had pages was in (
-                  content_loaded pages old begun was (bucket_chain (number_of map_of) bucket) had.0 had.1,
-                  subst (λ (kept : Kept). HasPages (page_in pages) (length pages + 1) (bucket_chain (number_of map_of) bucket)
-                      (kept_first kept (bucket_chain (number_of map_of) bucket)) ns)
+                  content_loaded pages old begun was (bucket_chain (map_number map_of) bucket) had.0 had.1,
+                  subst (λ (kept : Kept). HasPages (page_in pages) (length pages + 1) (bucket_chain (map_number map_of) bucket)
+                      (kept_first kept (bucket_chain (map_number map_of) bucket)) ns)
                       touches.stays.kept (lists.answers pages (touches.opens pages was)),
                 );
             opens = λ pages was. later.opens pages (touches.opens pages was);
             looks = looks_on old mid new (Ok ns) first.same first.stays (still_whole old mid done first) second;
           }
 
-      pub is_untold : (fault : StoreFault) → ListsChainOf (bucket_chain (number_of map_of) bucket) mid new (Err fault)
-          → TouchesChain {T = List ℕ} (bucket_chain (number_of map_of) bucket) mid new (Err fault)
-          → TellsPages (bucket_chain (number_of map_of) bucket) old new (Err fault)
+      pub is_untold : (fault : StoreFault) → ListsChainOf (bucket_chain (map_number map_of) bucket) mid new (Err fault)
+          → TouchesChain {T = List ℕ} (bucket_chain (map_number map_of) bucket) mid new (Err fault)
+          → TellsPages (bucket_chain (map_number map_of) bucket) old new (Err fault)
       is_untold fault lists later =
-          let first = looks_of (MayReadChain (bucket_at old (number_of map_of) bucket) old mid) old mid (Ok done) touches in
-          let second = looks_of (MayReadChain (bucket_chain (number_of map_of) bucket) mid new) mid new (Err fault) later in
+          let first = looks_of (MayReadChain (bucket_at old (map_number map_of) bucket) old mid) old mid (Ok done) touches in
+          let second = looks_of (MayReadChain (bucket_chain (map_number map_of) bucket) mid new) mid new (Err fault) later in
           record {
             answers = λ pages was.
-                listed_told pages (kept_of (chains_of old)) mid (bucket_chain (number_of map_of) bucket) fault
-                (is_high (number_of map_of) bucket) own.there (lists.answers pages (touches.opens pages was));
+                listed_told pages (kept_of (chains_of old)) mid (bucket_chain (map_number map_of) bucket) fault
+                (is_high (map_number map_of) bucket) own.there (lists.answers pages (touches.opens pages was));
             opens = λ pages was. later.opens pages (touches.opens pages was);
             looks = looks_on old mid new (Err fault) first.same first.stays (still_whole old mid done first) second;
           }

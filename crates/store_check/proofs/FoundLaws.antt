@@ -14,7 +14,7 @@ use Rattle.style_read.specs.Style.{StyleOf}
 use Rattle.value_bytes.specs.Forms.{Spells}
 use Rattle.value_bytes.specs.Maps.{ReadAs}
 use Rattle.value_bytes.specs.Nodes.{record_bytes, IsRecord}
-use Rattle.value_bytes.specs.StoreMap.{number_of}
+use Rattle.value_bytes.specs.StoreMap.{map_number}
 use Rattle.value_bytes.specs.declared.nodes.NodeRecord.{NodeRecord}
 use Rattle.value_bytes.specs.declared.store_map.StoreMap.{StoreMap}
 use Rattle.value_bytes.specs.declared.store_map.StoreMap.TheVariants as stored
@@ -29,12 +29,12 @@ use Rattle.store_check.specs.Wrong.{IsFirstWrong, IsRightIn}
 use Rattle.store_check.proofs.Exist.{Pair, values_exist}
 
 -- maps 0 to 2 are those of the three kinds
-low_map : (kind : Kind) → number_of (map_for kind) < 3
+low_map : (kind : Kind) → map_number (map_for kind) < 3
 low_map kinds.Node = omega arith
 low_map kinds.Way = omega arith
 low_map kinds.Relation = omega arith
 
-of_map : (P : StoreMap → Type 0) → ((kind : Kind) → P (map_for kind)) → (map : StoreMap) → number_of map < 3 → P map
+of_map : (P : StoreMap → Type 0) → ((kind : Kind) → P (map_for kind)) → (map : StoreMap) → map_number map < 3 → P map
 of_map P each stored.Nodes low = each kinds.Node
 of_map P each stored.Ways low = each kinds.Way
 of_map P each stored.Relations low = each kinds.Relation
@@ -142,7 +142,7 @@ module _ (style : StyleOf) (image : Image) where
         relations = finite.empty;
         read = λ behind. absurd (omega (arith, behind, low_map kind));
         least = record {
-          maps_before = λ other less. of_map (λ map. number_of map < number_of (map_for kind) → (key : ℕ)
+          maps_before = λ other less. of_map (λ map. map_number map < map_number (map_for kind) → (key : ℕ)
               → IsRight style image finite.empty objects map key)
               (λ before lower key. right_in finite.empty objects before key (first.maps_before before lower key)) other
               (omega (arith, less, low_map kind)) less;

@@ -8,7 +8,7 @@ use Rattle.osm_base.specs.values.Ids.{has}
 use Rattle.style_read.specs.Style.{StyleOf}
 use Rattle.bucket_records.specs.Records.{BucketMap}
 use Rattle.bucket_store.specs.Image.{Image}
-use Rattle.value_bytes.specs.StoreMap.{number_of}
+use Rattle.value_bytes.specs.StoreMap.{map_number}
 use Rattle.value_bytes.specs.declared.store_map.StoreMap.{StoreMap}
 use Rattle.value_bytes.specs.declared.store_map.StoreMap.TheVariants as stored
 use Rattle.store_maps.specs.Turns.{Told, blocks_in, listed_by, told_by}
@@ -45,23 +45,23 @@ module _ (style : StyleOf) (rest : Image) (nodes : NodeMap) (ways relations : Ob
       ap (λ (m : ObjectMap). has (listed_by what (finite.get m by)) id) held.relations_are
       ∙ sym (ap (λ (o : Option Object). has (listed_by what o) id) (get_relation nodes ways relations by))
 
-  pub right_lists : (map : StoreMap) (found : Option ℕ) → (3 ≤ number_of map) × (number_of map ≤ 5)
+  pub right_lists : (map : StoreMap) (found : Option ℕ) → (3 ≤ map_number map) × (map_number map ≤ 5)
       → ((id by : ℕ) → told id by ≡ held_tell map own id by)
-      → IsLeast (IsKeptAt told (rest.maps (number_of map))) found
+      → IsLeast (IsKeptAt told (rest.maps (map_number map))) found
       → IsLeast (IsRightIn style rest nodes ways relations map) found
   right_lists stored.Nodes found among same least = absurd (omega (arith, among.0))
   right_lists stored.Ways found among same least = absurd (omega (arith, among.0))
   right_lists stored.Relations found among same least = absurd (omega (arith, among.0))
   right_lists stored.WaysOfBlocks found among same least =
-      least_told told (told_by kinds.Way blocks_in (objects_of nodes ways relations)) (rest.maps (number_of stored.WaysOfBlocks)) found
+      least_told told (told_by kinds.Way blocks_in (objects_of nodes ways relations)) (rest.maps (map_number stored.WaysOfBlocks)) found
       (λ id by. same id by ∙ way_tells blocks_in id by) least
   right_lists stored.RelationsOfNodes found among same least =
       least_told told (told_by kinds.Relation (listed kinds.Node) (objects_of nodes ways relations))
-      (rest.maps (number_of stored.RelationsOfNodes)) found
+      (rest.maps (map_number stored.RelationsOfNodes)) found
       (λ id by. same id by ∙ relation_tells (listed kinds.Node) id by) least
   right_lists stored.RelationsOfWays found among same least =
       least_told told (told_by kinds.Relation (listed kinds.Way) (objects_of nodes ways relations))
-      (rest.maps (number_of stored.RelationsOfWays)) found
+      (rest.maps (map_number stored.RelationsOfWays)) found
       (λ id by. same id by ∙ relation_tells (listed kinds.Way) id by) least
   right_lists stored.NodeRows found among same least = absurd (omega (arith, among.1))
   right_lists stored.OtherRows found among same least = absurd (omega (arith, among.1))

@@ -12,7 +12,7 @@ use Rattle.osm_base.specs.declared.values.key.Kind.TheVariants as kinds
 use Rattle.osm_base.specs.declared.values.object.Object.{Object}
 use Rattle.value_bytes.specs.Maps.{ReadAs}
 use Rattle.value_bytes.specs.Objects.{object_bytes, IsStored}
-use Rattle.value_bytes.specs.StoreMap.{number_of}
+use Rattle.value_bytes.specs.StoreMap.{map_number}
 use Rattle.value_bytes.specs.declared.store_map.StoreMap.TheVariants as stored
 use Rattle.bucket_store.specs.Image.{Image, IsBucketOf}
 use Rattle.bucket_store.proofs.Images.{part_gives}
@@ -82,7 +82,7 @@ none_held kinds.Relation key own absent =
     subst (λ (o : Option Object). ReadAs object_bytes (IsStored kinds.Relation) None o) (sym absent) tt
 
 module _ (asked : Bool) (image : Image) (kind : Kind) (bucket : ℕ) (records : List (ℕ × List ℕ))
-    (are : IsBucketOf image (number_of (map_for kind)) bucket records) where
+    (are : IsBucketOf image (map_number (map_for kind)) bucket records) where
   either_held : (key : ℕ) (own : HeldOf) → IsAbsentAt kind key own ⊎ IsHeldAt image kind key own
       → ((bytes : List ℕ) → bytes_in image kind key ≡ Some bytes → IsHeldAt image kind key own) → IsHeldAt image kind key own
   either_held key own part there =
@@ -101,7 +101,7 @@ module _ (asked : Bool) (image : Image) (kind : Kind) (bucket : ℕ) (records : 
     part_of = takes.part_of;
     keeps = takes.keeps;
     gives = λ part key mine right. either_held key new ((takes.part_of part).each kind key)
-        (λ bytes is. takes.gives part key (key_among image (number_of (map_for kind)) bucket records are key bytes is mine) right);
+        (λ bytes is. takes.gives part key (key_among image (map_number (map_for kind)) bucket records are key bytes is mine) right);
   }
 
   right_of_bucket : (Seen : ℕ → Type 0) (key : ℕ) → (Seen key ⊎ Among records key → IsRightOf asked image kind key)
@@ -111,7 +111,7 @@ module _ (asked : Bool) (image : Image) (kind : Kind) (bucket : ℕ) (records : 
         | None ↦ λ is. subst (λ (o : Option (List ℕ)). IsRightAt asked kind key o) (sym is) (none_right asked kind key)
         | Some bytes ↦ λ is. elim part [
           | inl seen ↦ right (inl seen)
-          | inr mine ↦ right (inr (key_among image (number_of (map_for kind)) bucket records are key bytes is mine))
+          | inr mine ↦ right (inr (key_among image (map_number (map_for kind)) bucket records are key bytes is mine))
         ]
       ] refl
 
@@ -125,7 +125,7 @@ module _ (asked : Bool) (image : Image) (kind : Kind) (bucket : ℕ) (records : 
 module _ (asked : Bool) (image : Image) where
   -- the first wrong value of a map is that of all, where the maps before have none
   pub first_of : (kind : Kind) (own : Wrong) → IsWrongIn (λ map key. IsRightOf asked image kind key) (map_for kind) (Some own)
-      → ((other : Kind) → number_of (map_for other) < number_of (map_for kind) → (key : ℕ) → IsRightOf asked image other key)
+      → ((other : Kind) → map_number (map_for other) < map_number (map_for kind) → (key : ℕ) → IsRightOf asked image other key)
       → IsFirstOf asked image own
   first_of kind own wrong before = record {
     kind = kind;
@@ -135,16 +135,16 @@ module _ (asked : Bool) (image : Image) where
     wrong = wrong.1;
   }
 
-  pub before_nodes : (other : Kind) → number_of (map_for other) < 0 → (key : ℕ) → IsRightOf asked image other key
+  pub before_nodes : (other : Kind) → map_number (map_for other) < 0 → (key : ℕ) → IsRightOf asked image other key
   before_nodes other less = absurd (omega (arith, less))
 
   module _ (nodes : (key : ℕ) → IsRightOf asked image kinds.Node key) where
-    pub before_ways : (other : Kind) → number_of (map_for other) < 1 → (key : ℕ) → IsRightOf asked image other key
+    pub before_ways : (other : Kind) → map_number (map_for other) < 1 → (key : ℕ) → IsRightOf asked image other key
     before_ways kinds.Node less = nodes
     before_ways kinds.Way less = absurd (omega (arith, less))
     before_ways kinds.Relation less = absurd (omega (arith, less))
 
-    pub before_relations : ((key : ℕ) → IsRightOf asked image kinds.Way key) → (other : Kind) → number_of (map_for other) < 2 → (key : ℕ)
+    pub before_relations : ((key : ℕ) → IsRightOf asked image kinds.Way key) → (other : Kind) → map_number (map_for other) < 2 → (key : ℕ)
         → IsRightOf asked image other key
     before_relations ways kinds.Node less = nodes
     before_relations ways kinds.Way less = ways

@@ -8,13 +8,13 @@ use Rattle.std.specs.List.{flat_map}
 use Rattle.std.specs.Option.{option_or}
 use Rattle.std.specs.Ordering.{nat_cmp, eq_by_cmp}
 use Rattle.osm_base.specs.values.Place.{PlaceOf}
-use Rattle.store_check.specs.Places.{AreOwn, PlaceMap, joined}
+use Rattle.store_check.specs.Places.{AreOwn, PlaceMap, joined_lists}
 use Rattle.store_check.proofs.PlaceFinds.{apart_tied, chosen_or, find_both, tied_same}
 
 abbrev found : List PlaceMap → ℕ → Option PlaceOf
 found lists id = finite.find nat_cmp id (flat_map finite.entries lists)
 
-get_joined : (lists : List PlaceMap) (id : ℕ) → finite.get (joined lists) id ≡ found lists id
+get_joined : (lists : List PlaceMap) (id : ℕ) → finite.get (joined_lists lists) id ≡ found lists id
 get_joined lists id = finite.get-from_entries nat_cmp_total (flat_map finite.entries lists) id
 
 -- the first list goes before the others
@@ -50,12 +50,12 @@ found_in count number (first ∷ lists) (suc at) id list own within is =
     ∙ found_in count (number + 1) lists at id list own.1 (omega (arith, within)) (omega (arith, is))
 
 pub get_in : (count : ℕ) (lists : List PlaceMap) (at id : ℕ) (list : PlaceMap) → AreOwn count 0 lists → at < length lists
-    → at ≡ id % count → finite.get (get_or lists at list) id ≡ finite.get (joined lists) id
+    → at ≡ id % count → finite.get (get_or lists at list) id ≡ finite.get (joined_lists lists) id
 get_in count lists at id list own within is =
     sym (found_in count 0 lists at id list own within (omega (arith, is))) ∙ sym (get_joined lists id)
 
 pub get_past : (count : ℕ) (lists : List PlaceMap) (at id : ℕ) → AreOwn count 0 lists → length lists ≤ at → at ≡ id % count
-    → None ≡ finite.get (joined lists) id
+    → None ≡ finite.get (joined_lists lists) id
 get_past count lists at id own past is =
     sym (none_of count 0 lists id own (λ other within same. absurd (omega (arith, past, within, same, is)))) ∙ sym (get_joined lists id)
 
@@ -87,12 +87,12 @@ found_put count number (first ∷ lists) (suc at) id place list new other own wi
 -- a place more in its list
 pub put_in : (count : ℕ) (lists : List PlaceMap) (at id : ℕ) (place : PlaceOf) (list new : PlaceMap) → AreOwn count 0 lists
     → at < length lists → at ≡ id % count → new ≡ finite.insert (get_or lists at list) id place
-    → joined (set lists at new) ≡ finite.insert (joined lists) id place
+    → joined_lists (set lists at new) ≡ finite.insert (joined_lists lists) id place
 put_in count lists at id place list new own within is put = finite.same_map nat_cmp_total nat_cmp-IsAntisymmetric _ _ (λ other.
     get_joined (set lists at new) other
     ∙ found_put count 0 lists at id place list new other own within (omega (arith, is)) put
     ∙ ap (cond (eq_by_cmp nat_cmp other id) (Some place)) (sym (get_joined lists other))
-    ∙ sym (finite.get-insert nat_cmp_total (joined lists) id place other))
+    ∙ sym (finite.get-insert nat_cmp_total (joined_lists lists) id place other))
 
 -- the list of a remainder has no other ids
 own_at : (count number : ℕ) (lists : List PlaceMap) (at : ℕ) (list : PlaceMap) → AreOwn count number lists → at < length lists
@@ -137,8 +137,8 @@ set_same (first ∷ lists) (suc at) list new within same =
 
 -- a list that stays
 pub joined_same : (lists : List PlaceMap) (at : ℕ) (list new : PlaceMap) → at < length lists → new ≡ get_or lists at list
-    → joined (set lists at new) ≡ joined lists
-joined_same lists at list new within same = ap joined (set_same lists at list new within same)
+    → joined_lists (set lists at new) ≡ joined_lists lists
+joined_same lists at list new within same = ap joined_lists (set_same lists at list new within same)
 
 found_more : (lists : List PlaceMap) (list : PlaceMap) (id : ℕ) → list ≡ finite.empty → found (lists ++ list ∷ []) id ≡ found lists id
 found_more [] list id none =
@@ -152,7 +152,7 @@ found_more (first ∷ lists) list id none =
     ∙ sym (found_first first lists id)
 
 -- an empty list more
-pub joined_more : (lists : List PlaceMap) (list : PlaceMap) → list ≡ finite.empty → joined (lists ++ list ∷ []) ≡ joined lists
+pub joined_more : (lists : List PlaceMap) (list : PlaceMap) → list ≡ finite.empty → joined_lists (lists ++ list ∷ []) ≡ joined_lists lists
 joined_more lists list none = finite.same_map nat_cmp_total nat_cmp-IsAntisymmetric _ _ (λ id.
     get_joined (lists ++ list ∷ []) id ∙ found_more lists list id none ∙ sym (get_joined lists id))
 

@@ -21,7 +21,7 @@ use Rattle.object_fold.specs.Listing.{ListingOf}
 use Rattle.object_fold.proofs.SortedIds.{none-rise}
 use Rattle.value_bytes.specs.Nodes.{record_bytes, IsRecord}
 use Rattle.value_bytes.specs.Maps.{Decodes, HoldsMap, ReadAs}
-use Rattle.value_bytes.specs.StoreMap.{number_of}
+use Rattle.value_bytes.specs.StoreMap.{map_number}
 use Rattle.value_bytes.specs.declared.store_map.StoreMap.{StoreMap}
 use Rattle.value_bytes.specs.declared.store_map.StoreMap.TheVariants as stored
 use Rattle.bucket_records.specs.Records.{BucketMap}
@@ -149,10 +149,10 @@ module _ (told : Told) (kept : BucketMap) (are : AreKept told kept) where
 module _ (style : StyleOf) (image : Image) (nodes : NodeMap) (objects : ObjectSet) (map : StoreMap)
     (right : (number : ℕ) → HasRightBytes style image nodes objects map number) where
   abbrev kept : BucketMap
-  kept = image.maps (number_of map)
+  kept = image.maps (map_number map)
 
   abbrev AreRightAt : ℕ → Option (List TableRow) → Type 0
-  AreRightAt number rows = AreRightRows style nodes objects (key_of (number_of map) number) rows
+  AreRightAt number rows = AreRightRows style nodes objects (key_of (map_number map) number) rows
 
   record AreRowsAt (number : ℕ) (bytes : List ℕ) (rows : List TableRow) : Type 0 where
     is : AreRows style.tables rows
@@ -211,8 +211,8 @@ relation_number id =
 -- all maps
 
 module _ (image : Image) (nodes : NodeMap) (ways relations : ObjectMap)
-    (held_ways : HoldsMap object_bytes (IsStored kinds.Way) (image.maps (number_of stored.Ways)) ways)
-    (held_relations : HoldsMap object_bytes (IsStored kinds.Relation) (image.maps (number_of stored.Relations)) relations) where
+    (held_ways : HoldsMap object_bytes (IsStored kinds.Way) (image.maps (map_number stored.Ways)) ways)
+    (held_relations : HoldsMap object_bytes (IsStored kinds.Relation) (image.maps (map_number stored.Relations)) relations) where
   abbrev objects : ObjectSet
   objects = objects_of nodes ways relations
 
@@ -220,13 +220,13 @@ module _ (image : Image) (nodes : NodeMap) (ways relations : ObjectMap)
   proper_at kinds.Node id =
       subst (λ found. IfSome found (IsOfKind kinds.Node)) (sym (get_node nodes ways relations id)) (node_proper (finite.get nodes id))
   proper_at kinds.Way id = subst (λ found. IfSome found (IsOfKind kinds.Way)) (sym (get_way nodes ways relations id))
-      (if_decoded object_bytes (IsStored kinds.Way) (IsOfKind kinds.Way) stored_way (finite.get (image.maps (number_of stored.Ways)) id)
+      (if_decoded object_bytes (IsStored kinds.Way) (IsOfKind kinds.Way) stored_way (finite.get (image.maps (map_number stored.Ways)) id)
       (finite.get ways id) (held_ways id))
   proper_at kinds.Relation id = subst (λ found. IfSome found (IsOfKind kinds.Relation)) (sym (get_relation nodes ways relations id))
       (if_decoded object_bytes (IsStored kinds.Relation) (IsOfKind kinds.Relation) stored_relation
-      (finite.get (image.maps (number_of stored.Relations)) id) (finite.get relations id) (held_relations id))
+      (finite.get (image.maps (map_number stored.Relations)) id) (finite.get relations id) (held_relations id))
 
-  module _ (style : StyleOf) (held_nodes : HoldsMap record_bytes IsRecord (image.maps (number_of stored.Nodes)) nodes)
+  module _ (style : StyleOf) (held_nodes : HoldsMap record_bytes IsRecord (image.maps (map_number stored.Nodes)) nodes)
       (known : (id : ℕ) → IfSome (finite.get nodes id) (IsKnown (reaches_nodes style))) (right : AreRight style image nodes objects) where
     abbrev blocks : Told
     blocks = told_by kinds.Way blocks_in objects
@@ -248,9 +248,9 @@ module _ (image : Image) (nodes : NodeMap) (ways relations : ObjectMap)
       nodes = nodes;
       ways = ways;
       relations = relations;
-      ways_of_blocks = listing blocks (image.maps (number_of stored.WaysOfBlocks)) (right stored.WaysOfBlocks);
-      relations_of_nodes = listing by_nodes (image.maps (number_of stored.RelationsOfNodes)) (right stored.RelationsOfNodes);
-      relations_of_ways = listing by_ways (image.maps (number_of stored.RelationsOfWays)) (right stored.RelationsOfWays);
+      ways_of_blocks = listing blocks (image.maps (map_number stored.WaysOfBlocks)) (right stored.WaysOfBlocks);
+      relations_of_nodes = listing by_nodes (image.maps (map_number stored.RelationsOfNodes)) (right stored.RelationsOfNodes);
+      relations_of_ways = listing by_ways (image.maps (map_number stored.RelationsOfWays)) (right stored.RelationsOfWays);
       node_rows = node_lists;
       other_rows = other_lists;
     }
@@ -265,9 +265,9 @@ module _ (image : Image) (nodes : NodeMap) (ways relations : ObjectMap)
         relations = λ id. sym (get_relation nodes ways relations id);
       };
       index = record {
-        ways_of_blocks = is_listing blocks (image.maps (number_of stored.WaysOfBlocks)) (right stored.WaysOfBlocks);
-        relations_of_nodes = is_listing by_nodes (image.maps (number_of stored.RelationsOfNodes)) (right stored.RelationsOfNodes);
-        relations_of_ways = is_listing by_ways (image.maps (number_of stored.RelationsOfWays)) (right stored.RelationsOfWays);
+        ways_of_blocks = is_listing blocks (image.maps (map_number stored.WaysOfBlocks)) (right stored.WaysOfBlocks);
+        relations_of_nodes = is_listing by_nodes (image.maps (map_number stored.RelationsOfNodes)) (right stored.RelationsOfNodes);
+        relations_of_ways = is_listing by_ways (image.maps (map_number stored.RelationsOfWays)) (right stored.RelationsOfWays);
       };
       proper = record { kinds = λ own. proper_at own.kind own.id };
     }
@@ -290,9 +290,9 @@ module _ (image : Image) (nodes : NodeMap) (ways relations : ObjectMap)
         nodes = held_nodes;
         ways = held_ways;
         relations = held_relations;
-        ways_of_blocks = held_lists blocks (image.maps (number_of stored.WaysOfBlocks)) (right stored.WaysOfBlocks);
-        relations_of_nodes = held_lists by_nodes (image.maps (number_of stored.RelationsOfNodes)) (right stored.RelationsOfNodes);
-        relations_of_ways = held_lists by_ways (image.maps (number_of stored.RelationsOfWays)) (right stored.RelationsOfWays);
+        ways_of_blocks = held_lists blocks (image.maps (map_number stored.WaysOfBlocks)) (right stored.WaysOfBlocks);
+        relations_of_nodes = held_lists by_nodes (image.maps (map_number stored.RelationsOfNodes)) (right stored.RelationsOfNodes);
+        relations_of_ways = held_lists by_ways (image.maps (map_number stored.RelationsOfWays)) (right stored.RelationsOfWays);
         node_rows = held_rows style image nodes objects stored.NodeRows (right stored.NodeRows);
         other_rows = held_rows style image nodes objects stored.OtherRows (right stored.OtherRows);
       };
@@ -331,7 +331,7 @@ bare_there (Some own) there = refl
 
 -- where the values of maps 0 to 2 are right their keys are ids
 module _ (style : StyleOf) (image : Image) (nodes : NodeMap) (ways relations : ObjectMap) (read : ReadsObjects image nodes ways relations)
-    (right : (map : StoreMap) → number_of map < 3 → (key : ℕ) → IsRight style image nodes (objects_of nodes ways relations) map key) where
+    (right : (map : StoreMap) → map_number map < 3 → (key : ℕ) → IsRight style image nodes (objects_of nodes ways relations) map key) where
   id_at : (kind : Kind) (id : ℕ) → IsSome (finite.get (objects_of nodes ways relations) (record { kind = kind; id = id })) → IsId id
   id_at kinds.Node id there = id_one record_bytes IsRecord (IsKnownRecord style) id (finite.get (image.maps 0) id) (finite.get nodes id)
       (read.nodes_read id) (right stored.Nodes (omega arith) id)

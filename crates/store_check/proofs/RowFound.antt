@@ -12,7 +12,7 @@ use Rattle.osm_base.specs.values.Key.{IsId, node_key, way_key, relation_key}
 use Rattle.style_read.specs.Style.{StyleOf}
 use Rattle.value_bytes.specs.Maps.{ReadAs}
 use Rattle.value_bytes.specs.Objects.{object_bytes, IsStored}
-use Rattle.value_bytes.specs.StoreMap.{number_of}
+use Rattle.value_bytes.specs.StoreMap.{map_number}
 use Rattle.store_maps.specs.Asked.{object_map}
 use Rattle.value_bytes.specs.Nodes.{record_bytes, IsRecord}
 use Rattle.value_bytes.specs.declared.nodes.NodeRecord.{NodeRecord}
@@ -96,7 +96,7 @@ module _ (style : StyleOf) (image : Image) (nodes : NodeMap) (ways relations : O
   node_read bytes None read = absurd read
   node_read bytes (Some node) read = refl
 
-  pub kept_has_id : (kind : Kind) (id : ℕ) (bytes : List ℕ) → finite.get (image.maps (number_of (object_map kind))) id ≡ Some bytes → IsId id
+  pub kept_has_id : (kind : Kind) (id : ℕ) (bytes : List ℕ) → finite.get (image.maps (map_number (object_map kind))) id ≡ Some bytes → IsId id
   kept_has_id kinds.Node id bytes there = tells.ids (node_key id) (subst IsSome (sym (get_node nodes ways relations id))
       (node_read bytes (finite.get nodes id)
       (subst (λ (kept : Option (List ℕ)). ReadAs record_bytes IsRecord kept (finite.get nodes id)) there (tells.read.nodes_read id))))

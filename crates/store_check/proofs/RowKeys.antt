@@ -4,7 +4,7 @@ use Rattle.std.specs.FinMap as finite
 use Rattle.osm_base.specs.declared.values.key.Kind.{Kind}
 use Rattle.osm_base.specs.declared.values.key.Kind.TheVariants as kinds
 use Rattle.style_read.specs.Style.{StyleOf}
-use Rattle.value_bytes.specs.StoreMap.{number_of}
+use Rattle.value_bytes.specs.StoreMap.{map_number}
 use Rattle.value_bytes.specs.declared.store_map.StoreMap.{StoreMap}
 use Rattle.value_bytes.specs.declared.store_map.StoreMap.TheVariants as stored
 use Rattle.bucket_store.specs.Image.{Image}
@@ -46,7 +46,7 @@ module _ (style : StyleOf) (image : Image) (nodes : NodeMap) (ways relations : O
 
   module _ (bytes : List ℕ) where
     abbrev Kept : StoreMap → Type 0
-    Kept source = finite.get (image.maps (number_of source)) number ≡ Some bytes
+    Kept source = finite.get (image.maps (map_number source)) number ≡ Some bytes
 
     some_none : (kind : Kind) → Some kind ≡ None → ⊥
     some_none kind same = cc

@@ -25,7 +25,7 @@ use Rattle.row_rules.proofs.Unwanted.{row_from-unwanted}
 use Rattle.value_bytes.specs.Forms.{Spells}
 use Rattle.value_bytes.specs.Maps.{Decodes, ReadAs}
 use Rattle.value_bytes.specs.Nodes.{record_bytes, IsRecord}
-use Rattle.value_bytes.specs.StoreMap.{number_of}
+use Rattle.value_bytes.specs.StoreMap.{map_number}
 use Rattle.value_bytes.specs.declared.nodes.NodeRecord.{NodeRecord}
 use Rattle.value_bytes.specs.declared.store_map.StoreMap.{StoreMap}
 use Rattle.value_bytes.specs.declared.store_map.StoreMap.TheVariants as stored
@@ -136,8 +136,8 @@ unknown_is : (node : NodeRecord) → node.tags ≡ None → (Unknown : Option Pl
 unknown_is node none Unknown Known = ap (λ (tags : Option TagMap). ByTags tags (Unknown node.place) Known) none
 
 module _ (style : StyleOf) (image : Image) (nodes : NodeMap) (objects : ObjectSet) (map : StoreMap) (number : ℕ) (key : KeyOf)
-    (is : key_of (number_of map) number ≡ key) (kept : Option (List ℕ))
-    (there : kept ≡ finite.get (image.maps (number_of map)) number) where
+    (is : key_of (map_number map) number ≡ key) (kept : Option (List ℕ))
+    (there : kept ≡ finite.get (image.maps (map_number map)) number) where
   abbrev Right : Type 0
   Right = HasRightBytes style image nodes objects map number
 
@@ -278,7 +278,7 @@ module _ (style : StyleOf) (image : Image) (nodes : NodeMap) (ways relations : O
 
   -- so it is for each key
   pub other_judged_at : (kind : Kind) (id : ℕ) → is_kind kinds.Node kind ≡ false
-      → kept ≡ finite.get (image.maps (number_of (row_map kind))) (row_key kind id)
+      → kept ≡ finite.get (image.maps (map_number (row_map kind))) (row_key kind id)
       → ((right ≡ true) ↔ IsSpellingOf style.tables (rows_known style (held_known own) (record { kind = kind; id = id })) kept)
       → ((right ≡ true) ↔ IsRightAt (row_map kind) (row_key kind id))
   other_judged_at kinds.Node id is there judged = absurd (cc)
@@ -286,10 +286,10 @@ module _ (style : StyleOf) (image : Image) (nodes : NodeMap) (ways relations : O
   other_judged_at kinds.Relation id is there judged = relation_judged id there judged
 
   pub node_judged_at : (kind : Kind) (id : ℕ) (bytes : List ℕ) → kind ≡ kinds.Node
-      → kept ≡ finite.get (image.maps (number_of (row_map kind))) (row_key kind id)
+      → kept ≡ finite.get (image.maps (map_number (row_map kind))) (row_key kind id)
       → ((node : NodeRecord) → Spells record_bytes IsRecord bytes node
       → ((right ≡ true) ↔ IsRightNode style own (record { kind = kind; id = id }) kept node))
-      → finite.get (image.maps (number_of (object_map kind))) id ≡ Some bytes
+      → finite.get (image.maps (map_number (object_map kind))) id ≡ Some bytes
       → ((right ≡ true) ↔ IsRightAt (row_map kind) (row_key kind id))
   node_judged_at kinds.Node id bytes is there judged found = node_judged id bytes there judged found
   node_judged_at kinds.Way id bytes is there judged found = absurd (cc)

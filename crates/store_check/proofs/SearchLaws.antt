@@ -7,7 +7,7 @@ use Rattle.std.specs.Prelude.{IfSome}
 use Rattle.style_read.specs.Style.{StyleOf}
 use Rattle.object_fold.specs.Listings.{HasIds}
 use Rattle.bucket_store.specs.Image.{Image}
-use Rattle.value_bytes.specs.StoreMap.{number_of}
+use Rattle.value_bytes.specs.StoreMap.{map_number}
 use Rattle.value_bytes.specs.declared.store_map.StoreMap.{StoreMap}
 use Rattle.value_bytes.specs.declared.store_map.StoreMap.TheVariants as stored
 use Rattle.store_check.specs.Held.{HeldOf}
@@ -44,7 +44,7 @@ at_number (suc (suc (suc (suc (suc (suc zero)))))) = Some stored.NodeRows
 at_number (suc (suc (suc (suc (suc (suc (suc zero))))))) = Some stored.OtherRows
 at_number _ = None
 
-at_own : (map : StoreMap) → at_number (number_of map) ≡ Some map
+at_own : (map : StoreMap) → at_number (map_number map) ≡ Some map
 unfolding at_number
 at_own stored.Nodes = refl
 at_own stored.Ways = refl
@@ -55,7 +55,7 @@ at_own stored.RelationsOfWays = refl
 at_own stored.NodeRows = refl
 at_own stored.OtherRows = refl
 
-pub same_map : (one other : StoreMap) → number_of one ≡ number_of other → one ≡ other
+pub same_map : (one other : StoreMap) → map_number one ≡ map_number other → one ≡ other
 same_map one other level = same_Some one other (sym (at_own one) ∙ ap at_number level ∙ at_own other)
 
 low_number : (n k : ℕ) → nat_lt n k ≡ true → n < k
@@ -75,18 +75,18 @@ module _ (style : StyleOf) (image : Image) (held : HeldOf) (own : HoldsObjects s
   held_ids = objects_have_ids style image own.nodes own.ways own.relations own.read own.right
 
   -- maps 0 to 2 are right, and so are these
-  pub all_right : ((map : StoreMap) → 3 ≤ number_of map → (key : ℕ) → IsRightIn style image own.nodes own.ways own.relations map key)
+  pub all_right : ((map : StoreMap) → 3 ≤ map_number map → (key : ℕ) → IsRightIn style image own.nodes own.ways own.relations map key)
       → AllRight style image
   all_right behind = record {
     nodes = own.nodes;
     ways = own.ways;
     relations = own.relations;
     read = own.read;
-    right = λ map key. ⊎_elim (λ low. own.right map low key) (λ high. behind map high key) (lower_or_not (number_of map) 3);
+    right = λ map key. ⊎_elim (λ low. own.right map low key) (λ high. behind map high key) (lower_or_not (map_number map) 3);
   }
 
   -- the first value that is not right behind them
-  pub first_found : (map : StoreMap) → ((other : StoreMap) → 3 ≤ number_of other → number_of other < number_of map → (key : ℕ)
+  pub first_found : (map : StoreMap) → ((other : StoreMap) → 3 ≤ map_number other → map_number other < map_number map → (key : ℕ)
       → IsRightIn style image own.nodes own.ways own.relations other key) → (wrong : Wrong)
       → IsWrongIn (IsRightIn style image own.nodes own.ways own.relations) map (Some wrong) → IsFirstWrong style image wrong.map wrong.key
   first_found map before wrong is = subst (λ (at : StoreMap). IsFirstWrong style image at wrong.key) (sym is.0) (record {
@@ -96,7 +96,7 @@ module _ (style : StyleOf) (image : Image) (held : HeldOf) (own : HoldsObjects s
     read = λ high. own.read;
     least = record {
       maps_before = λ other low key. ⊎_elim (λ first. own.right other first key) (λ high. before other high low key)
-          (lower_or_not (number_of other) 3);
+          (lower_or_not (map_number other) 3);
       keys_before = is.2;
       wrong = is.1;
     };

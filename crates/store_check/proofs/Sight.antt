@@ -8,7 +8,7 @@ use Rattle.std.proofs.lemmas.Bool.Decides.{nat_tests}
 use Rattle.osm_base.specs.values.Key.{node_key, way_key, relation_key}
 use Rattle.osm_base.specs.map.Objects.{ObjectSet}
 use Rattle.style_read.specs.Style.{StyleOf}
-use Rattle.value_bytes.specs.StoreMap.{number_of}
+use Rattle.value_bytes.specs.StoreMap.{map_number}
 use Rattle.value_bytes.specs.declared.store_map.StoreMap.{StoreMap}
 use Rattle.value_bytes.specs.declared.store_map.StoreMap.TheVariants as stored
 use Rattle.bucket_store.specs.Image.{Image}
@@ -100,7 +100,7 @@ module _ (style : StyleOf) (image : Image) (nodes : NodeMap) (ways relations : O
   objects = objects_of nodes ways relations
 
   abbrev Kept : StoreMap → ℕ → Type 0
-  Kept source number = IsSome (finite.get (image.maps (number_of source)) number)
+  Kept source number = IsSome (finite.get (image.maps (map_number source)) number)
 
   abbrev SeesAll : StoreMap → Type 0
   SeesAll map = SeesRows style image nodes ways relations map (λ source number. GoesWith map source × Kept source number) None found
@@ -167,7 +167,7 @@ module _ (style : StyleOf) (image : Image) (nodes : NodeMap) (ways relations : O
   least_of Is None wrong right = λ key all. right key tt
   least_of Is (Some least) wrong right = (wrong, λ key low all. right key low)
 
-  pub all_seen : (map : StoreMap) → 6 ≤ number_of map → SeesAll map → IsLeast (IsRightIn style image nodes ways relations map) found
+  pub all_seen : (map : StoreMap) → 6 ≤ map_number map → SeesAll map → IsLeast (IsRightIn style image nodes ways relations map) found
   all_seen stored.NodeRows rows sees = least_of (IsRightIn style image nodes ways relations stored.NodeRows) found (sees.wrong tt)
       (λ key low. node_right sees key low (finite.get (image.maps 0) key) (finite.get (image.maps 6) key) refl refl)
   all_seen stored.OtherRows rows sees = least_of (IsRightIn style image nodes ways relations stored.OtherRows) found (sees.wrong tt)

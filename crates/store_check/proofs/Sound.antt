@@ -20,7 +20,7 @@ use Rattle.row_rules.specs.Condition.{reaches_nodes}
 use Rattle.object_fold.specs.Listing.{ListingOf, listers}
 use Rattle.value_bytes.specs.Maps.{Decodes, HoldsMap}
 use Rattle.value_bytes.proofs.MapLaws.{read_one}
-use Rattle.value_bytes.specs.StoreMap.{number_of}
+use Rattle.value_bytes.specs.StoreMap.{map_number}
 use Rattle.value_bytes.specs.declared.store_map.StoreMap.{StoreMap}
 use Rattle.value_bytes.specs.declared.store_map.StoreMap.TheVariants as stored
 use Rattle.bucket_records.specs.Records.{BucketMap}
@@ -71,7 +71,7 @@ kept_at told kept listing held is id = record {
 -- rows
 
 module _ (style : StyleOf) (image : Image) (nodes : NodeMap) (objects : ObjectSet) (map : StoreMap) (rows : RowMap)
-    (held : HoldsMap rows_bytes (AreRows style.tables) (image.maps (number_of map)) rows) where
+    (held : HoldsMap rows_bytes (AreRows style.tables) (image.maps (map_number map)) rows) where
   abbrev IsRightAt : ℕ → KeyOf → Type 0
   IsRightAt number own = AreRightRows style nodes objects own (finite.get rows number)
 
@@ -89,7 +89,7 @@ module _ (style : StyleOf) (image : Image) (nodes : NodeMap) (objects : ObjectSe
             subst (λ (own : ℕ). IsRightAt own (record { kind = kinds.Relation; id = number / 2 })) (omega (arith, one_left)) odd
       ] refl
 
-  rows_of_sound : (number : ℕ) → IsRightAt number (key_of (number_of map) number) → HasRightBytes style image nodes objects map number
+  rows_of_sound : (number : ℕ) → IsRightAt number (key_of (map_number map) number) → HasRightBytes style image nodes objects map number
   rows_of_sound number right = record { rows = finite.get rows number; read = held number; right = right }
 
 -- objects

@@ -30,7 +30,7 @@ use Rattle.bucket_store.proofs.Frames.{alone_of, cause_of, or_none, quiet_cause}
 use Rattle.bucket_store.proofs.Holding.{looks_same, looks_then}
 use Rattle.row_store.specs.Loading.{Looks}
 use Rattle.row_store.proofs.LookLaws.{looks_on, read_same, still_whole}
-use Rattle.value_bytes.specs.StoreMap.{number_of}
+use Rattle.value_bytes.specs.StoreMap.{map_number}
 use Rattle.value_bytes.specs.declared.store_map.StoreMap.{StoreMap}
 use Rattle.value_bytes.specs.declared.store_map.StoreMap.TheVariants as maps
 use Rattle.value_bytes.proofs.ListLaws.{each_append}
@@ -296,7 +296,7 @@ module _ {D : Type 0} {g : Ghosts D} where
   }
 
 -- the numbers of the maps, and of the chains of their buckets
-pub number_low : (map : StoreMap) → number_of map < 8
+pub number_low : (map : StoreMap) → map_number map < 8
 number_low maps.Nodes = omega arith
 number_low maps.Ways = omega arith
 number_low maps.Relations = omega arith
@@ -306,7 +306,7 @@ number_low maps.RelationsOfWays = omega arith
 number_low maps.NodeRows = omega arith
 number_low maps.OtherRows = omega arith
 
-pub bucket_owner : (map : StoreMap) (bucket count : ℕ) → bucket < count → count ≤ 65536 → IsOwner (bucket_chain (number_of map) bucket)
+pub bucket_owner : (map : StoreMap) (bucket count : ℕ) → bucket < count → count ≤ 65536 → IsOwner (bucket_chain (map_number map) bucket)
 bucket_owner map bucket count low few = let under = number_low map in inr (omega (arith, low, few, under))
 
 -- the numbers that are left

@@ -4,7 +4,7 @@ use Rattle.std.proofs.Common.{sym, subst, ◌∙◌}
 use Rattle.std.specs.Prelude.{◌==◌, if◌then◌else◌, IsSome}
 use Rattle.std.specs.FinMap as finite
 use Rattle.std.specs.List.{AllByRecursion}
-use Rattle.value_bytes.specs.StoreMap.{number_of}
+use Rattle.value_bytes.specs.StoreMap.{map_number}
 use Rattle.value_bytes.specs.declared.store_map.StoreMap.{StoreMap}
 use Rattle.value_bytes.specs.declared.store_map.StoreMap.TheVariants as stored
 use Rattle.bucket_store.specs.Image.{Image, IsBucketOf}
@@ -35,12 +35,12 @@ module _ (image : Image) (which bucket : ℕ) (records : List (ℕ × List ℕ))
 
 -- the keys of a bucket are among its records
 pub bucket_among : (own : StoreMap) (image : Image) (bucket : ℕ) (records : List (ℕ × List ℕ))
-    → IsBucketOf image (number_of own) (bucket % image.root.buckets) records → (source : StoreMap) (number : ℕ)
+    → IsBucketOf image (map_number own) (bucket % image.root.buckets) records → (source : StoreMap) (number : ℕ)
     → IsOfBucket own image bucket source number → (own ≡ source) × Among records number
 bucket_among own image bucket records are source number part = (
   part.0,
-  all_among [] None (number_of own) (λ spot. None) image (bucket % image.root.buckets) records are number
-      (subst (λ (map : StoreMap). IsSome (finite.get (image.maps (number_of map)) number)) (sym part.0) part.1) part.2,
+  all_among [] None (map_number own) (λ spot. None) image (bucket % image.root.buckets) records are number
+      (subst (λ (map : StoreMap). IsSome (finite.get (image.maps (map_number map)) number)) (sym part.0) part.1) part.2,
 )
 
 -- a bucket of each map is a bucket of one of them

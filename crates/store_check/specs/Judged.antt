@@ -16,7 +16,7 @@ use Rattle.style_read.specs.Style.{StyleOf}
 use Rattle.style_read.specs.declared.style.TableDef.{TableDef}
 use Rattle.object_fold.specs.Listings.{HasIds}
 use Rattle.value_bytes.specs.Maps.{Decodes}
-use Rattle.value_bytes.specs.StoreMap.{number_of}
+use Rattle.value_bytes.specs.StoreMap.{map_number}
 use Rattle.value_bytes.specs.declared.nodes.NodeRecord.{NodeRecord}
 use Rattle.value_bytes.specs.declared.store_map.StoreMap.{StoreMap}
 use Rattle.value_bytes.specs.declared.store_map.StoreMap.TheVariants as stored
@@ -97,8 +97,8 @@ row_number _ id = id
 
 -- what the keys of a map are asked for: those of a map of rows are where they have no object
 abbrev pub IsAsked : ObjectSet → StoreMap → ℕ → Type 0
-IsAsked objects stored.NodeRows number = finite.get objects (key_of (number_of stored.NodeRows) number) ≡ None
-IsAsked objects stored.OtherRows number = finite.get objects (key_of (number_of stored.OtherRows) number) ≡ None
+IsAsked objects stored.NodeRows number = finite.get objects (key_of (map_number stored.NodeRows) number) ≡ None
+IsAsked objects stored.OtherRows number = finite.get objects (key_of (map_number stored.OtherRows) number) ≡ None
 IsAsked objects _ number = Unit {0}
 
 -- the way or the relation whose rows have this key, of those that are held
@@ -147,7 +147,7 @@ abbrev pub IsAmong : StoreMap → List (ℕ × List ℕ) → StoreMap → ℕ �
 IsAmong own records source number = (own ≡ source) × Among records number
 
 abbrev pub IsOfBucket : StoreMap → Image → ℕ → StoreMap → ℕ → Type 0
-IsOfBucket own image bucket source number = (own ≡ source) × IsSome (finite.get (image.maps (number_of source)) number)
+IsOfBucket own image bucket source number = (own ≡ source) × IsSome (finite.get (image.maps (map_number source)) number)
     × (number % image.root.buckets ≡ bucket % image.root.buckets)
 
 abbrev pub IsOfBoth : Image → ℕ → StoreMap → ℕ → Type 0
@@ -155,9 +155,9 @@ IsOfBoth image bucket source number =
     IsOfBucket stored.Ways image bucket source number ⊎ IsOfBucket stored.Relations image bucket source number
 
 abbrev pub IsOfBuckets : StoreMap → Image → ℕ → StoreMap → ℕ → Type 0
-IsOfBuckets map image bucket source number = GoesWith map source × IsSome (finite.get (image.maps (number_of source)) number)
+IsOfBuckets map image bucket source number = GoesWith map source × IsSome (finite.get (image.maps (map_number source)) number)
     × (number % image.root.buckets ≡ bucket % image.root.buckets)
 
 abbrev pub IsBefore : StoreMap → Image → ℕ → StoreMap → ℕ → Type 0
-IsBefore map image bucket source number = GoesWith map source × IsSome (finite.get (image.maps (number_of source)) number)
+IsBefore map image bucket source number = GoesWith map source × IsSome (finite.get (image.maps (map_number source)) number)
     × (number % image.root.buckets < bucket)

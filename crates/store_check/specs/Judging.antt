@@ -12,7 +12,7 @@ use Rattle.value_bytes.specs.Forms.{Spells}
 use Rattle.value_bytes.specs.Maps.{ReadAs}
 use Rattle.value_bytes.specs.Nodes.{record_bytes, IsRecord}
 use Rattle.value_bytes.specs.Objects.{object_bytes, IsStored}
-use Rattle.value_bytes.specs.StoreMap.{number_of}
+use Rattle.value_bytes.specs.StoreMap.{map_number}
 use Rattle.value_bytes.specs.declared.nodes.NodeRecord.{NodeRecord}
 use Rattle.value_bytes.specs.declared.store_map.StoreMap.{StoreMap}
 use Rattle.value_bytes.specs.declared.store_map.StoreMap.TheVariants as stored
@@ -44,7 +44,7 @@ map_for kinds.Way = stored.Ways
 map_for kinds.Relation = stored.Relations
 
 abbrev pub bytes_in : Image → Kind → ℕ → Option (List ℕ)
-bytes_in image kind key = finite.get (image.maps (number_of (map_for kind))) key
+bytes_in image kind key = finite.get (image.maps (map_number (map_for kind))) key
 
 -- what the map of a kind has for a key is right
 abbrev pub IsRightAt : (asked : Bool) → Kind → ℕ → Option (List ℕ) → Type 0
@@ -105,7 +105,7 @@ pub record JudgesAll (asked : Bool) (image : Image) (old new : HeldOf) : Type 0 
 pub record IsFirstOf (asked : Bool) (image : Image) (own : Wrong) : Type 0 where
   pub kind : Kind
   pub map_is : own.map ≡ map_for kind
-  pub maps_before : (other : Kind) → number_of (map_for other) < number_of (map_for kind) → (key : ℕ) → IsRightOf asked image other key
+  pub maps_before : (other : Kind) → map_number (map_for other) < map_number (map_for kind) → (key : ℕ) → IsRightOf asked image other key
   pub keys_before : (key : ℕ) → key < own.key → IsRightOf asked image kind key
   pub wrong : ¬ IsRightOf asked image kind own.key
 

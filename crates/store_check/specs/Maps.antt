@@ -8,7 +8,7 @@ use Rattle.osm_base.specs.values.Place.{PlaceOf}
 use Rattle.std.specs.Prelude.{Option}
 use Rattle.style_read.specs.Style.{StyleOf}
 use Rattle.value_bytes.specs.Nodes.{record_bytes}
-use Rattle.value_bytes.specs.StoreMap.{number_of}
+use Rattle.value_bytes.specs.StoreMap.{map_number}
 use Rattle.value_bytes.specs.declared.store_map.StoreMap.TheVariants as stored
 use Rattle.bucket_store.specs.Image.{Image}
 use Rattle.middle_nodes.specs.Old.{unknown}
@@ -29,4 +29,4 @@ pub record HasSoundMapsOf (style : StyleOf) (objects : ObjectSet) (image : Image
 -- no node is kept with tags that nobody knows
 abbrev pub KnowsTags : Image → Type 0
 KnowsTags image = (id : ℕ) (place : Option PlaceOf)
-    → finite.get (image.maps (number_of stored.Nodes)) id ≢ Some (record_bytes (unknown place))
+    → finite.get (image.maps (map_number stored.Nodes)) id ≢ Some (record_bytes (unknown place))

@@ -1,7 +1,7 @@
 -- What reading maps 0 to 2 of a store finds: the objects, or the first value that is not right.
 use Rattle.std.specs.Prelude.{◌<◌, ℕ}
 use Rattle.style_read.specs.Style.{StyleOf}
-use Rattle.value_bytes.specs.StoreMap.{number_of}
+use Rattle.value_bytes.specs.StoreMap.{map_number}
 use Rattle.value_bytes.specs.declared.store_map.StoreMap.{StoreMap}
 use Rattle.bucket_store.specs.Image.{Image}
 use Rattle.store_check.specs.declared.objects.Found.{Found}
@@ -17,7 +17,7 @@ pub record HoldsObjects (style : StyleOf) (image : Image) (own : HeldOf) : Type 
   pub relations : ObjectMap
   pub read : ReadsObjects image nodes ways relations
   pub held : IsHeldOf nodes ways relations own
-  pub right : (map : StoreMap) → number_of map < 3 → (key : ℕ) → IsRightIn style image nodes ways relations map key
+  pub right : (map : StoreMap) → map_number map < 3 → (key : ℕ) → IsRightIn style image nodes ways relations map key
 
 -- so it is, or this is the first value that is not right
 abbrev pub FindsObjects : StyleOf → Image → Found → Type 0

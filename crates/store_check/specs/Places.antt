@@ -13,8 +13,8 @@ abbrev pub id_of : ℕ × PlaceOf → ℕ
 id_of one = one.0
 
 -- all of these
-abbrev pub joined : List PlaceMap → PlaceMap
-joined lists = finite.from_entries (flat_map finite.entries lists)
+abbrev pub joined_lists : List PlaceMap → PlaceMap
+joined_lists lists = finite.from_entries (flat_map finite.entries lists)
 
 -- these are the lists of the remainders from this one on: each has no other ids
 abbrev pub AreOwn : (count number : ℕ) → List PlaceMap → Type 0

@@ -23,7 +23,7 @@ use Rattle.style_read.specs.declared.style.TableDef.{TableDef}
 use Rattle.value_bytes.specs.Maps.{Decodes, ReadAs}
 use Rattle.value_bytes.specs.Nodes.{record_bytes, IsRecord}
 use Rattle.value_bytes.specs.Objects.{object_bytes, IsStored}
-use Rattle.value_bytes.specs.StoreMap.{number_of}
+use Rattle.value_bytes.specs.StoreMap.{map_number}
 use Rattle.value_bytes.specs.declared.nodes.NodeRecord.{NodeRecord}
 use Rattle.value_bytes.specs.declared.store_map.StoreMap.{StoreMap}
 use Rattle.value_bytes.specs.declared.store_map.StoreMap.TheVariants as stored
@@ -74,11 +74,11 @@ pub record IsKnownRecord (style : StyleOf) (own : NodeRecord) : Type 0 where
 
 -- maps 0 to 2 read as these nodes, ways and relations, and as no others
 pub record ReadsObjects (image : Image) (nodes : NodeMap) (ways relations : ObjectMap) : Type 0 where
-  pub nodes_read : (id : ℕ) → ReadAs record_bytes IsRecord (finite.get (image.maps (number_of stored.Nodes)) id) (finite.get nodes id)
+  pub nodes_read : (id : ℕ) → ReadAs record_bytes IsRecord (finite.get (image.maps (map_number stored.Nodes)) id) (finite.get nodes id)
   pub ways_read : (id : ℕ)
-      → ReadAs object_bytes (IsStored kinds.Way) (finite.get (image.maps (number_of stored.Ways)) id) (finite.get ways id)
+      → ReadAs object_bytes (IsStored kinds.Way) (finite.get (image.maps (map_number stored.Ways)) id) (finite.get ways id)
   pub relations_read : (id : ℕ)
-      → ReadAs object_bytes (IsStored kinds.Relation) (finite.get (image.maps (number_of stored.Relations)) id) (finite.get relations id)
+      → ReadAs object_bytes (IsStored kinds.Relation) (finite.get (image.maps (map_number stored.Relations)) id) (finite.get relations id)
 
 -- a row of a node whose tags nobody knows: it stands in a table of nodes, at the place of the node
 pub record IsPlaced (tables : List TableDef) (place : Option PlaceOf) (row : TableRow) : Type 0 where
@@ -107,23 +107,23 @@ AreRightRows style nodes objects key rows = IfUnknown (record_at nodes key)
 -- what a map of rows has for a key is absent, or it is the spelling of rows, and these are right
 pub record HasRightBytes (style : StyleOf) (image : Image) (nodes : NodeMap) (objects : ObjectSet) (map : StoreMap) (key : ℕ) : Type 0 where
   pub rows : Option (List TableRow)
-  pub read : Decodes rows_bytes (AreRows style.tables) (finite.get (image.maps (number_of map)) key) rows
-  pub right : AreRightRows style nodes objects (key_of (number_of map) key) rows
+  pub read : Decodes rows_bytes (AreRows style.tables) (finite.get (image.maps (map_number map)) key) rows
+  pub right : AreRightRows style nodes objects (key_of (map_number map) key) rows
 
 -- what a map has for a key is right. What maps 0 to 2 read as is told for the others: the nodes, and all objects.
 abbrev pub IsRight : StyleOf → Image → NodeMap → ObjectSet → StoreMap → (key : ℕ) → Type 0
 IsRight style image nodes objects stored.Nodes key =
-    IsSpelledAt record_bytes (IsKnownRecord style) (finite.get (image.maps (number_of stored.Nodes)) key) key
+    IsSpelledAt record_bytes (IsKnownRecord style) (finite.get (image.maps (map_number stored.Nodes)) key) key
 IsRight style image nodes objects stored.Ways key =
-    IsSpelledAt object_bytes (IsStored kinds.Way) (finite.get (image.maps (number_of stored.Ways)) key) key
+    IsSpelledAt object_bytes (IsStored kinds.Way) (finite.get (image.maps (map_number stored.Ways)) key) key
 IsRight style image nodes objects stored.Relations key =
-    IsSpelledAt object_bytes (IsStored kinds.Relation) (finite.get (image.maps (number_of stored.Relations)) key) key
+    IsSpelledAt object_bytes (IsStored kinds.Relation) (finite.get (image.maps (map_number stored.Relations)) key) key
 IsRight style image nodes objects stored.WaysOfBlocks key =
-    IsKeptAt (told_by kinds.Way blocks_in objects) (image.maps (number_of stored.WaysOfBlocks)) key
+    IsKeptAt (told_by kinds.Way blocks_in objects) (image.maps (map_number stored.WaysOfBlocks)) key
 IsRight style image nodes objects stored.RelationsOfNodes key =
-    IsKeptAt (told_by kinds.Relation (listed kinds.Node) objects) (image.maps (number_of stored.RelationsOfNodes)) key
+    IsKeptAt (told_by kinds.Relation (listed kinds.Node) objects) (image.maps (map_number stored.RelationsOfNodes)) key
 IsRight style image nodes objects stored.RelationsOfWays key =
-    IsKeptAt (told_by kinds.Relation (listed kinds.Way) objects) (image.maps (number_of stored.RelationsOfWays)) key
+    IsKeptAt (told_by kinds.Relation (listed kinds.Way) objects) (image.maps (map_number stored.RelationsOfWays)) key
 IsRight style image nodes objects stored.NodeRows key = HasRightBytes style image nodes objects stored.NodeRows key
 IsRight style image nodes objects stored.OtherRows key = HasRightBytes style image nodes objects stored.OtherRows key
 
@@ -133,6 +133,6 @@ AreRight style image nodes objects = (map : StoreMap) (key : ℕ) → IsRight st
 
 -- the least value that is not right: of the least map, and there of the least key
 pub record IsLeastWrong (style : StyleOf) (image : Image) (nodes : NodeMap) (objects : ObjectSet) (map : StoreMap) (key : ℕ) : Type 0 where
-  pub maps_before : (other : StoreMap) → number_of other < number_of map → (own : ℕ) → IsRight style image nodes objects other own
+  pub maps_before : (other : StoreMap) → map_number other < map_number map → (own : ℕ) → IsRight style image nodes objects other own
   pub keys_before : (own : ℕ) → own < key → IsRight style image nodes objects map own
   pub wrong : ¬ IsRight style image nodes objects map key

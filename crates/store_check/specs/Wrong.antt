@@ -1,7 +1,7 @@
 -- The least key of which something is not so, and the first value of a store that is not right.
 use Rattle.std.specs.Prelude.{◌≡◌, ◌<◌, ◌≤◌, ℕ, Option, None, Some}
 use Rattle.style_read.specs.Style.{StyleOf}
-use Rattle.value_bytes.specs.StoreMap.{number_of}
+use Rattle.value_bytes.specs.StoreMap.{map_number}
 use Rattle.value_bytes.specs.declared.store_map.StoreMap.{StoreMap}
 use Rattle.bucket_store.specs.Image.{Image}
 use Rattle.store_check.specs.declared.wrong.Wrong.{Wrong}
@@ -25,7 +25,7 @@ pub record IsFirstWrong (style : StyleOf) (image : Image) (map : StoreMap) (key 
   pub nodes : NodeMap
   pub ways : ObjectMap
   pub relations : ObjectMap
-  pub read : 3 ≤ number_of map → ReadsObjects image nodes ways relations
+  pub read : 3 ≤ map_number map → ReadsObjects image nodes ways relations
   pub least : IsLeastWrong style image nodes (objects_of nodes ways relations) map key
 
 -- maps 0 to 2 read as objects, and by these each value of each map is right

@@ -4,7 +4,7 @@
 ghost use Rattle.std.specs.Prelude.{◌≡◌, ◌≤◌, ◌%◌, IsSome};
 ghost use Rattle.std.specs.FinMap as finite;
 ghost use Rattle.style_read.specs.Style.{StyleOf};
-ghost use Rattle.value_bytes.specs.StoreMap.{number_of};
+ghost use Rattle.value_bytes.specs.StoreMap.{map_number};
 ghost use Rattle.back_index.specs.Filling.{IsKeptAt, mentions_tell};
 ghost use Rattle.store_check.specs.Held.{IsHeldOf};
 ghost use Rattle.store_check.specs.Least.{lesser_of};
@@ -31,7 +31,7 @@ pub(crate) fn first_wrong_list<D: Disk>(
     map: StoreMap,
     held: &Held,
 ) -> Result<Option<u64>, StoreFault>
-    requires lists { (3 ≤ number_of map) × (number_of map ≤ 5) }
+    requires lists { (3 ≤ map_number map) × (map_number map ≤ 5) }
     ensures least { Finds reading.old reading.new result (λ rest found.
         (style : StyleOf) (nodes : NodeMap) (ways relations : ObjectMap) → ReadsObjects rest nodes ways relations
         → IsHeldOf nodes ways relations held.now → IsLeast (IsRightIn style rest nodes ways relations map) found) }
@@ -53,7 +53,7 @@ fn wrong_list<D: Disk>(
     mentions: &Mentions,
 ) -> Result<Option<u64>, StoreFault>
     ensures least { Finds reading.old reading.new result (λ rest found.
-        IsLeast (IsKeptAt (mentions_tell mentions.now.all.now) (rest.maps (number_of map))) found) }
+        IsLeast (IsKeptAt (mentions_tell mentions.now.all.now) (rest.maps (map_number map))) found) }
 {
     let kept = match wrong_kept(alloc, reading, map, mentions) {
         Ok(kept) => kept,
@@ -73,8 +73,8 @@ fn wrong_kept<D: Disk>(
     mentions: &Mentions,
 ) -> Result<Option<u64>, StoreFault>
     ensures least { Finds reading.old reading.new result (λ rest found.
-        IsLeastOf (λ n. IsSome (finite.get (rest.maps (number_of map)) n))
-        (IsKeptAt (mentions_tell mentions.now.all.now) (rest.maps (number_of map))) found) }
+        IsLeastOf (λ n. IsSome (finite.get (rest.maps (map_number map)) n))
+        (IsKeptAt (mentions_tell mentions.now.all.now) (rest.maps (map_number map))) found) }
 {
     let count = reading.bucket_count();
     let mut found = None;
@@ -98,8 +98,8 @@ fn wrong_in_bucket<D: Disk>(
     mentions: &Mentions,
 ) -> Result<Option<u64>, StoreFault>
     ensures least { Finds reading.old reading.new result (λ rest found.
-        IsLeastOf (λ n. IsSome (finite.get (rest.maps (number_of map)) n) × (n % rest.root.buckets ≡ bucket % rest.root.buckets))
-        (IsKeptAt (mentions_tell mentions.now.all.now) (rest.maps (number_of map))) found) }
+        IsLeastOf (λ n. IsSome (finite.get (rest.maps (map_number map)) n) × (n % rest.root.buckets ≡ bucket % rest.root.buckets))
+        (IsKeptAt (mentions_tell mentions.now.all.now) (rest.maps (map_number map))) found) }
 {
     let records = match reading.records(map, bucket) {
         Ok(records) => records,
@@ -118,7 +118,7 @@ fn lacking<D: Disk>(
     mentions: &Mentions,
 ) -> Result<Option<u64>, StoreFault>
     ensures least { Finds reading.old reading.new result (λ rest found.
-        IsLeast (λ id. ¬ IsLacking (mentions_tell mentions.now.all.now) (rest.maps (number_of map)) id) found) }
+        IsLeast (λ id. ¬ IsLacking (mentions_tell mentions.now.all.now) (rest.maps (map_number map)) id) found) }
 {
     let mut least = Least::new();
     for mention in mentions.all {

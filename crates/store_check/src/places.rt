@@ -1,7 +1,7 @@
 //! The places of nodes, in a list for each bucket.
 ghost use Rattle.std.specs.Prelude.{◌≡◌, ◌≤◌, ◌<◌, ℕ, OnErr, OnOk, length};
 ghost use Rattle.std.specs.FinMap as finite;
-ghost use Rattle.store_check.specs.Places.{AreOwn, joined};
+ghost use Rattle.store_check.specs.Places.{AreOwn, joined_lists};
 
 use crate::node_list::NodeList;
 use osm_base::{OutOfMemory, Place};
@@ -22,13 +22,13 @@ impl Model for Places {
     ghost use Rattle.std.specs.Coded.{coded_ℕ};
     ghost use Rattle.std.specs.FinMap as finite;
     ghost use Rattle.osm_base.specs.contracts.values.place.Place as place;
-    ghost use Rattle.store_check.specs.Places.{AreLists, PlaceMap, joined};
+    ghost use Rattle.store_check.specs.Places.{AreLists, PlaceMap, joined_lists};
 
     ghost Value = { PlaceMap };
 
     ghost coded = { finite.code coded_ℕ place.the_row.coded };
 
-    ghost view = { λ own. joined own.lists.items };
+    ghost view = { λ own. joined_lists own.lists.items };
 
     ghost invariant = { λ own. AreLists own.count own.lists.items };
 }
@@ -78,7 +78,7 @@ fn at_least_one(number: u64) -> u64
 /// Makes empty lists up to this one.
 fn reach(alloc: Global, lists: &mut Vec<NodeList>, at: usize) -> Result<(), OutOfMemory>
     ensures there { OnOk result (at < length lists.new.items) }
-    ensures same { joined lists.new.items ≡ joined lists.old.items }
+    ensures same { joined_lists lists.new.items ≡ joined_lists lists.old.items }
     ensures own { (count : ℕ) → AreOwn count 0 lists.old.items → AreOwn count 0 lists.new.items }
 {
     while lists.len() <= at {

@@ -1,7 +1,7 @@
 //! A store is read, and nothing of it is changed.
 ghost use Rattle.std.specs.Prelude.{◌≡◌, ◌%◌, is_some};
 ghost use Rattle.std.specs.FinMap as finite;
-ghost use Rattle.value_bytes.specs.StoreMap.{number_of};
+ghost use Rattle.value_bytes.specs.StoreMap.{map_number};
 ghost use Rattle.bucket_store.specs.Buckets.{bucket_count};
 ghost use Rattle.bucket_store.specs.Image.{IsBucketOf};
 ghost use Rattle.bucket_store.specs.Transaction.{chains_of};
@@ -37,7 +37,7 @@ impl<'b, 'd, D: Disk> Reading<'b, 'd, D> {
         bucket: u64,
     ) -> Result<Vec<(u64, Bytes)>, StoreFault>
         ensures found { Finds self.old self.new result (λ rest records.
-            IsBucketOf rest (number_of map) (bucket % rest.root.buckets) records.items) }
+            IsBucketOf rest (map_number map) (bucket % rest.root.buckets) records.items) }
     {
         match self.buckets.records(map, bucket) {
             Ok(records) => Ok(records),
@@ -51,7 +51,7 @@ impl<'b, 'd, D: Disk> Reading<'b, 'd, D> {
     /// The bytes that a map has under a key.
     pub(crate) fn get(&mut self, map: StoreMap, key: u64) -> Result<Option<Bytes>, StoreFault>
         ensures found { Finds self.old self.new result (λ rest bytes.
-            bytes ≡ finite.get (rest.maps (number_of map)) key) }
+            bytes ≡ finite.get (rest.maps (map_number map)) key) }
     {
         match self.buckets.get(map, key) {
             Ok(bytes) => Ok(bytes),
@@ -65,7 +65,7 @@ impl<'b, 'd, D: Disk> Reading<'b, 'd, D> {
     /// Whether a map has something under a key.
     pub(crate) fn has(&mut self, map: StoreMap, key: u64) -> Result<bool, StoreFault>
         ensures found { Finds self.old self.new result (λ rest there.
-            there ≡ is_some (finite.get (rest.maps (number_of map)) key)) }
+            there ≡ is_some (finite.get (rest.maps (map_number map)) key)) }
     {
         match self.buckets.bring(map, key) {
             Ok(()) => Ok(self.buckets.value(map, key).is_some()),

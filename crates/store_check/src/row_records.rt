@@ -3,7 +3,7 @@ ghost use Rattle.std.specs.Prelude.{◌≡◌, ◌↔◌, ℕ, List, Some, false
 ghost use Rattle.std.specs.FinMap as finite;
 ghost use Rattle.std.specs.List.{AllByRecursion};
 ghost use Rattle.style_read.specs.Style.{StyleOf};
-ghost use Rattle.value_bytes.specs.StoreMap.{number_of};
+ghost use Rattle.value_bytes.specs.StoreMap.{map_number};
 ghost use Rattle.value_bytes.specs.declared.store_map.StoreMap.TheVariants as stored;
 ghost use Rattle.bucket_store.specs.Image.{Has, Image};
 ghost use Rattle.store_maps.specs.Asked.{object_map, row_key, row_map};
@@ -38,7 +38,7 @@ pub(crate) fn judge_records<D: Disk>(
     ensures sees { Finds reading.old reading.new result (λ rest done.
         (nodes : NodeMap) (ways relations : ObjectMap)
         → Tells held.now rest nodes ways relations
-        → AllByRecursion (λ one. finite.get (rest.maps (number_of source.map)) one.0 ≡ Some one.1) records.now
+        → AllByRecursion (λ one. finite.get (rest.maps (map_number source.map)) one.0 ≡ Some one.1) records.now
         → SeesRows style.now rest nodes ways relations (rows_map source.map) (IsAmong source.map records.now) wrong.old wrong.new) }
 {
     for (number, bytes) in records {
@@ -71,7 +71,7 @@ fn judge_record<D: Disk>(
 ) -> Result<(), StoreFault>
     ensures sees { Finds reading.old reading.new result (λ rest done.
         (nodes : NodeMap) (ways relations : ObjectMap)
-        → Tells held.now rest nodes ways relations → finite.get (rest.maps (number_of source.map)) number ≡ Some bytes.now
+        → Tells held.now rest nodes ways relations → finite.get (rest.maps (map_number source.map)) number ≡ Some bytes.now
         → SeesRows style.now rest nodes ways relations (rows_map source.map) (IsOne source.map number) wrong.old wrong.new) }
 {
     match wrong_key(alloc, reading, style, held, source, number, bytes) {
@@ -96,7 +96,7 @@ fn wrong_key<D: Disk>(
 ) -> Result<Option<u64>, StoreFault>
     ensures found { Finds reading.old reading.new result (λ rest found.
         (nodes : NodeMap) (ways relations : ObjectMap)
-        → Tells held.now rest nodes ways relations → finite.get (rest.maps (number_of source.map)) number ≡ Some bytes.now
+        → Tells held.now rest nodes ways relations → finite.get (rest.maps (map_number source.map)) number ≡ Some bytes.now
         → IsFound (IsRightIn style.now rest nodes ways relations (rows_map source.map)) (IsAsked (objects_of nodes ways relations) source.map number)
         (row_number source.map number) found) }
 {
@@ -124,7 +124,7 @@ fn wrong_of_object<D: Disk>(
 ) -> Result<Option<u64>, StoreFault>
     ensures found { Finds reading.old reading.new result (λ rest found.
         (nodes : NodeMap) (ways relations : ObjectMap)
-        → Tells held.now rest nodes ways relations → finite.get (rest.maps (number_of (object_map kind))) id ≡ Some bytes.now
+        → Tells held.now rest nodes ways relations → finite.get (rest.maps (map_number (object_map kind))) id ≡ Some bytes.now
         → IsFound (IsRightIn style.now rest nodes ways relations (row_map kind)) (Unit {0}) (row_key kind id) found) }
 {
     if id < 1 {
@@ -150,7 +150,7 @@ fn wrong_of_key<D: Disk>(
 ) -> Result<Option<u64>, StoreFault>
     ensures found { Finds reading.old reading.new result (λ rest found.
         (nodes : NodeMap) (ways relations : ObjectMap)
-        → Tells held.now rest nodes ways relations → finite.get (rest.maps (number_of (object_map key.kind))) key.id ≡ Some bytes.now
+        → Tells held.now rest nodes ways relations → finite.get (rest.maps (map_number (object_map key.kind))) key.id ≡ Some bytes.now
         → IsFound (IsRightIn style.now rest nodes ways relations (row_map key.kind)) (Unit {0}) (row_key key.kind key.id) found) }
 {
     let number = row_key(key);
@@ -175,8 +175,8 @@ fn is_right(
     kept: &Option<Bytes>,
 ) -> Result<bool, OutOfMemory>
     ensures right { IfOk result (λ right. (rest : Image) (nodes : NodeMap) (ways relations : ObjectMap)
-        → Tells held.now rest nodes ways relations → finite.get (rest.maps (number_of (object_map key.kind))) key.id ≡ Some bytes.now
-        → kept.now ≡ finite.get (rest.maps (number_of (row_map key.kind))) (row_key key.kind key.id)
+        → Tells held.now rest nodes ways relations → finite.get (rest.maps (map_number (object_map key.kind))) key.id ≡ Some bytes.now
+        → kept.now ≡ finite.get (rest.maps (map_number (row_map key.kind))) (row_key key.kind key.id)
         → (IsTrue right ↔ IsRightIn style.now rest nodes ways relations (row_map key.kind) (row_key key.kind key.id))) }
 {
     match key.kind {
@@ -195,13 +195,13 @@ fn wrong_of_rows<D: Disk>(
 ) -> Result<Option<u64>, StoreFault>
     ensures nodes { is_node_rows map ≡ true → IfOk result (λ found. (rest : Image) → Has rest rest reading.old.buckets.now → (style : StyleOf)
         (nodes : NodeMap) (ways relations : ObjectMap) → Tells held.now rest nodes ways relations → (bytes : List ℕ)
-        → finite.get (rest.maps (number_of stored.NodeRows)) number ≡ Some bytes
+        → finite.get (rest.maps (map_number stored.NodeRows)) number ≡ Some bytes
         → IsFound (IsRightIn style rest nodes ways relations stored.NodeRows) (IsAsked (objects_of nodes ways relations) stored.NodeRows number)
         number found) }
     ensures others { Finds reading.old reading.new result (λ rest found.
         is_node_rows map ≡ false → (style : StyleOf)
         (nodes : NodeMap) (ways relations : ObjectMap) → Tells held.now rest nodes ways relations → (bytes : List ℕ)
-        → finite.get (rest.maps (number_of stored.OtherRows)) number ≡ Some bytes
+        → finite.get (rest.maps (map_number stored.OtherRows)) number ≡ Some bytes
         → IsFound (IsRightIn style rest nodes ways relations stored.OtherRows) (IsAsked (objects_of nodes ways relations) stored.OtherRows number)
         number found) }
 {
@@ -222,7 +222,7 @@ fn wrong_of_no_node<D: Disk>(
     ensures found { Finds reading.old reading.new result (λ rest found.
         (style : StyleOf) (own : HeldOf) (nodes : NodeMap)
         (ways relations : ObjectMap) → Tells own rest nodes ways relations → (bytes : List ℕ)
-        → finite.get (rest.maps (number_of stored.NodeRows)) id ≡ Some bytes
+        → finite.get (rest.maps (map_number stored.NodeRows)) id ≡ Some bytes
         → IsFound (IsRightIn style rest nodes ways relations stored.NodeRows) (IsAsked (objects_of nodes ways relations) stored.NodeRows id) id found) }
 {
     match reading.get(StoreMap::Nodes, id) {
@@ -235,7 +235,7 @@ fn wrong_of_no_node<D: Disk>(
 /// The key of rows of a way or a relation, which are kept, if there is no such object.
 fn wrong_of_none(held: &Held, number: u64) -> Option<u64>
     ensures found { (style : StyleOf) (rest : Image) (nodes : NodeMap) (ways relations : ObjectMap) → Tells held.now rest nodes ways relations
-        → (bytes : List ℕ) → finite.get (rest.maps (number_of stored.OtherRows)) number ≡ Some bytes
+        → (bytes : List ℕ) → finite.get (rest.maps (map_number stored.OtherRows)) number ≡ Some bytes
         → IsFound (IsRightIn style rest nodes ways relations stored.OtherRows) (IsAsked (objects_of nodes ways relations) stored.OtherRows number)
         number result }
 {

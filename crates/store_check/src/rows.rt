@@ -1,7 +1,7 @@
 //! The rows of a store, maps 6 and 7, are compared with those of an import of its objects.
 ghost use Rattle.std.specs.Prelude.{◌≤◌};
 ghost use Rattle.object_fold.specs.Listings.{HasIds};
-ghost use Rattle.value_bytes.specs.StoreMap.{number_of};
+ghost use Rattle.value_bytes.specs.StoreMap.{map_number};
 ghost use Rattle.value_bytes.specs.declared.store_map.StoreMap.TheVariants as stored;
 ghost use Rattle.store_check.specs.Held.{IsHeldOf};
 ghost use Rattle.store_check.specs.Judged.{IsOfBoth, IsOfBucket, IsOfBuckets, SeesHeld, rows_map};
@@ -29,7 +29,7 @@ pub(crate) fn first_wrong_rows<D: Disk>(
     map: StoreMap,
     held: &Held,
 ) -> Result<Option<u64>, StoreFault>
-    requires rows { 6 ≤ number_of map }
+    requires rows { 6 ≤ map_number map }
     ensures least { Finds reading.old reading.new result (λ rest found.
         (nodes : NodeMap) (ways relations : ObjectMap) → ReadsObjects rest nodes ways relations → HasIds (objects_of nodes ways relations)
         → IsHeldOf nodes ways relations held.now → IsLeast (IsRightIn style.now rest nodes ways relations map) found) }
@@ -56,7 +56,7 @@ fn judge_buckets<D: Disk>(
     bucket: u64,
     wrong: &mut Least,
 ) -> Result<(), StoreFault>
-    requires rows { 6 ≤ number_of map }
+    requires rows { 6 ≤ map_number map }
     ensures sees { Finds reading.old reading.new result (λ rest done.
         SeesHeld style.now held.now rest map (IsOfBuckets map rest bucket) wrong.old wrong.new) }
 {

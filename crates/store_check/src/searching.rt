@@ -4,7 +4,7 @@ ghost use Rattle.object_fold.specs.Listings.{HasIds};
 ghost use Rattle.bucket_store.specs.Image.{Has, Image, IsSoundAnswer};
 ghost use Rattle.bucket_store.specs.Transaction.{IsReady, has_refused};
 ghost use Rattle.row_store.specs.Loading.{Looks};
-ghost use Rattle.value_bytes.specs.StoreMap.{number_of};
+ghost use Rattle.value_bytes.specs.StoreMap.{map_number};
 ghost use Rattle.store_check.specs.Held.{IsHeldOf};
 ghost use Rattle.store_check.specs.Objects.{HoldsObjects};
 ghost use Rattle.store_check.specs.Finds.{Finds, FindsThere};
@@ -43,7 +43,7 @@ fn wrong_in<D: Disk>(
     map: StoreMap,
     held: &Held,
 ) -> Result<Option<Wrong>, StoreFault>
-    requires behind { 3 ≤ number_of map }
+    requires behind { 3 ≤ map_number map }
     ensures least { Finds reading.old reading.new result (λ rest found.
         (nodes : NodeMap) (ways relations : ObjectMap) → ReadsObjects rest nodes ways relations → HasIds (objects_of nodes ways relations)
         → IsHeldOf nodes ways relations held.now → IsWrongIn (IsRightIn style.now rest nodes ways relations) map found) }

@@ -4,7 +4,7 @@ ghost use Rattle.std.specs.List.{range_with_len};
 ghost use Rattle.page_journal.specs.Journal.{home_count};
 ghost use Rattle.chain_store.specs.Chains.{journal_of, kept_of};
 ghost use Rattle.chain_store.specs.declared.layout.TheConstants.{FREE};
-ghost use Rattle.value_bytes.specs.StoreMap.{number_of};
+ghost use Rattle.value_bytes.specs.StoreMap.{map_number};
 ghost use Rattle.bucket_store.specs.Buckets.{bucket_count};
 ghost use Rattle.bucket_store.specs.Calls.{IsBegun};
 ghost use Rattle.bucket_store.specs.Image.{Has, Image, IsSoundAnswer, bucket_chain};
@@ -150,7 +150,7 @@ fn load_buckets<D: Disk>(
 ) -> Result<(), StoreFault>
     requires fresh { IsFresh buckets.old }
     requires count { count ≡ bucket_count (chains_of buckets.old) }
-    ensures loads { LoadsChains (chains_in count (number_of map)) buckets.old buckets.new marks.old marks.new result }
+    ensures loads { LoadsChains (chains_in count (map_number map)) buckets.old buckets.new marks.old marks.new result }
 {
     let mut bucket = 0;
     while bucket < count {
@@ -171,7 +171,7 @@ fn load_bucket<D: Disk>(
 ) -> Result<(), StoreFault>
     requires fresh { IsFresh buckets.old }
     requires bucket { bucket < bucket_count (chains_of buckets.old) }
-    ensures loads { LoadsChains (bucket_chain (number_of map) bucket ∷ []) buckets.old buckets.new marks.old marks.new result }
+    ensures loads { LoadsChains (bucket_chain (map_number map) bucket ∷ []) buckets.old buckets.new marks.old marks.new result }
 {
     match bucket_pages(buckets, map, bucket) {
         Ok(pages) => {
@@ -191,7 +191,7 @@ fn bucket_pages<D: Disk>(
 ) -> Result<Ids, StoreFault>
     requires fresh { IsFresh buckets.old }
     requires bucket { bucket < bucket_count (chains_of buckets.old) }
-    ensures lists { TellsPages (bucket_chain (number_of map) bucket) buckets.old buckets.new result }
+    ensures lists { TellsPages (bucket_chain (map_number map) bucket) buckets.old buckets.new result }
 {
     let n = chain_of(map, bucket, buckets.root().buckets);
     if let Err(fault) = buckets.bring(map, bucket) {
@@ -207,7 +207,7 @@ fn bucket_pages<D: Disk>(
 fn chain_of(map: StoreMap, bucket: u64, count: u64) -> u32
     requires few { count ≤ 65536 }
     requires bucket { bucket < count }
-    ensures { result ≡ bucket_chain (number_of map) bucket }
+    ensures { result ≡ bucket_chain (map_number map) bucket }
 {
     16 + 65536 * u32::from(map.number()) + bucket as u32
 }

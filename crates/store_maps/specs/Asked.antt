@@ -9,7 +9,7 @@ use Rattle.osm_base.specs.map.Known.{Question, WaysOfNode, RelationsOfNode, Rela
 use Rattle.osm_base.specs.map.Listers.{listed}
 use Rattle.osm_base.specs.values.Key.{KeyOf}
 use Rattle.object_fold.specs.Listing.{listers}
-use Rattle.value_bytes.specs.StoreMap.{number_of}
+use Rattle.value_bytes.specs.StoreMap.{map_number}
 use Rattle.value_bytes.specs.declared.store_map.StoreMap.{StoreMap}
 use Rattle.value_bytes.specs.declared.store_map.StoreMap.TheVariants as stored
 use Rattle.store_maps.specs.Maps.{Maps, block_of}
@@ -21,7 +21,7 @@ May = ℕ → ℕ → Bool
 
 -- a key of a map may be asked
 abbrev pub MayKey : May → StoreMap → ℕ → Type 0
-MayKey may own key = may (number_of own) key ≡ true
+MayKey may own key = may (map_number own) key ≡ true
 
 -- the map of the objects of a kind
 abbrev pub object_map : Kind → StoreMap
@@ -52,13 +52,13 @@ MayEach may number keys = AllByRecursion (λ key. may number key ≡ true) keys
 
 -- who lists what the object of a key lists
 pub record MayList (may : May) (own : KeyOf) (object : Option Object) : Type 0 where
-  pub ways_of_blocks : MayEach may (number_of stored.WaysOfBlocks) (ids_for kinds.Way blocks_in own.kind object)
-  pub relations_of_nodes : MayEach may (number_of stored.RelationsOfNodes) (ids_for kinds.Relation (listed kinds.Node) own.kind object)
-  pub relations_of_ways : MayEach may (number_of stored.RelationsOfWays) (ids_for kinds.Relation (listed kinds.Way) own.kind object)
+  pub ways_of_blocks : MayEach may (map_number stored.WaysOfBlocks) (ids_for kinds.Way blocks_in own.kind object)
+  pub relations_of_nodes : MayEach may (map_number stored.RelationsOfNodes) (ids_for kinds.Relation (listed kinds.Node) own.kind object)
+  pub relations_of_ways : MayEach may (map_number stored.RelationsOfWays) (ids_for kinds.Relation (listed kinds.Way) own.kind object)
 
 -- what answers a question to the index: of the ways that list a node all those that list one of its block
 abbrev pub MayAnswer : May → Maps → Question → Type 0
 MayAnswer may maps (WaysOfNode id) = MayKey may stored.WaysOfBlocks (block_of id)
-    × MayEach may (number_of stored.Ways) (listers maps.ways_of_blocks (block_of id))
+    × MayEach may (map_number stored.Ways) (listers maps.ways_of_blocks (block_of id))
 MayAnswer may maps (RelationsOfNode id) = MayKey may stored.RelationsOfNodes id
 MayAnswer may maps (RelationsOfWay id) = MayKey may stored.RelationsOfWays id

@@ -12,7 +12,7 @@ use Rattle.toml.specs.Data.{Data, array, no_items}
 use Rattle.style_read.specs.Causes.{first_cause, top_has, has_too_many, selections_of, tables_of, columns_of}
 use Rattle.style_read.specs.Column.{column_of, column_from, origin_of, tag_origin}
 use Rattle.style_read.specs.Condition.{Parts, condition_on, tag_condition, condition_of, parts_of, selection_of, is_named}
-use Rattle.style_read.specs.Document.{text_of, text_at, values_at}
+use Rattle.style_read.specs.Document.{text_value, text_at, values_at}
 use Rattle.style_read.specs.Reading.{selection, table, conditions}
 use Rattle.style_read.specs.Style.{NamesOneOf, IsFromOneOf, IsOnTags, IsTable, IsStyle}
 use Rattle.style_read.specs.Text.{behind}
@@ -126,13 +126,13 @@ column_of-fact selections column =
 
 selection-fact : (part : Data) → IsOnTags (selection part)
 unfolding selection
-selection-fact part = filter_map-all (NamesOneOf 0) (λ value. tag_condition (text_of value)) (λ value. tag_condition-fact 0 (text_of value))
+selection-fact part = filter_map-all (NamesOneOf 0) (λ value. tag_condition (text_value value)) (λ value. tag_condition-fact 0 (text_value value))
     (values_at (codes "where") part)
 
 conditions-fact : (selections values : List Data) → AllByRecursion (NamesOneOf (length selections)) (conditions selections values)
 conditions-fact selections values =
-    filter_map-all (NamesOneOf (length selections)) (λ value. condition_of selections (text_of value))
-    (λ value. condition_of-fact selections (text_of value)) values
+    filter_map-all (NamesOneOf (length selections)) (λ value. condition_of selections (text_value value))
+    (λ value. condition_of-fact selections (text_value value)) values
 
 table-fact : (selections : List Data) (part : Data) → IsTable (length selections) (table selections part)
 unfolding table

@@ -6,7 +6,7 @@ use Rattle.std.specs.Prelude.{ℕ, ◌+◌, List, [], ◌∷◌, ◌++◌, Bool,
 use Rattle.std.specs.List.{find, list_any}
 use Rattle.std.specs.Option.{option_map, option_or}
 use Rattle.toml.specs.Data.{Data}
-use Rattle.style_read.specs.Document.{text_of, text_at, values_at, lacks, may_have, is_text, is_table, are_texts, are_tables}
+use Rattle.style_read.specs.Document.{text_value, text_at, values_at, lacks, may_have, is_text, is_table, are_texts, are_tables}
 use Rattle.style_read.specs.Document.{has_empty_list, has_other_key}
 use Rattle.style_read.specs.Name.{is_name}
 use Rattle.style_read.specs.Condition.{is_named, is_bad_condition, asks_unknown}
@@ -62,7 +62,7 @@ has_bad_name before part = not (is_name (text_at (codes "name") part)) || list_a
 
 -- a value of a list is no condition where it stands
 unfoldable pub has_bad_condition : (key : List ℕ) → Bool → Data → Bool
-has_bad_condition key selecting part = list_any (λ value. is_bad_condition selecting (text_of value)) (values_at key part)
+has_bad_condition key selecting part = list_any (λ value. is_bad_condition selecting (text_value value)) (values_at key part)
 
 -- a key of a selection is not there
 unfoldable pub lacks_of_selection : Data → Bool
@@ -92,7 +92,7 @@ lacks_of_column column = is_table column && (lacks (codes "name") column || lack
 
 -- a text that names a type
 abbrev pub is_type_word : Data → Bool
-is_type_word value = is_text value && is_type (text_of value)
+is_type_word value = is_text value && is_type (text_value value)
 
 -- a value of a column has another type, or is none of the words
 unfoldable pub has_other_column_types : Data → Bool
@@ -123,13 +123,13 @@ lacks_of_table part = lacks (codes "name") part ||
 
 -- a text that names a source, a geometry, a mode
 abbrev pub is_source : Data → Bool
-is_source value = is_text value && is_some (source_of (text_of value))
+is_source value = is_text value && is_some (source_of (text_value value))
 
 abbrev pub is_geometry_word : Data → Bool
-is_geometry_word value = is_text value && is_geometry (text_of value)
+is_geometry_word value = is_text value && is_geometry (text_value value)
 
 abbrev pub is_mode : Data → Bool
-is_mode value = is_text value && is_some (mode_of (text_of value))
+is_mode value = is_text value && is_some (mode_of (text_value value))
 
 -- a source, a geometry or a mode is none of the words
 unfoldable pub has_other_words : Data → Bool
@@ -151,7 +151,7 @@ has_bad_conditions part = has_bad_condition (codes "where") (may_select (source_
 
 -- a condition of a list asks for a selection that is not there
 unfoldable pub asks_unknown_at : (selections : List Data) → (key : List ℕ) → Data → Bool
-asks_unknown_at selections key part = list_any (λ value. asks_unknown selections (text_of value)) (values_at key part)
+asks_unknown_at selections key part = list_any (λ value. asks_unknown selections (text_value value)) (values_at key part)
 
 -- so does a column
 unfoldable pub is_from_unknown : (selections : List Data) → Data → Bool

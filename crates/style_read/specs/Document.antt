@@ -21,8 +21,8 @@ items_in no_items = []
 items_in (item value rest) = value ∷ items_in rest
 
 -- the bytes of a text
-abbrev pub text_of : Data → List ℕ
-text_of value = unwrap_or (as_str value) []
+abbrev pub text_value : Data → List ℕ
+text_value value = unwrap_or (as_str value) []
 
 -- the values of a list
 abbrev pub values_of : Data → List Data
@@ -30,7 +30,7 @@ values_of value = unwrap_or (option_map items_in (as_array value)) []
 
 -- the bytes of the text at a key
 abbrev pub text_at : List ℕ → Data → List ℕ
-text_at key part = unwrap_or (option_map text_of (get key part)) []
+text_at key part = unwrap_or (option_map text_value (get key part)) []
 
 -- the values of the list at a key
 abbrev pub values_at : List ℕ → Data → List Data

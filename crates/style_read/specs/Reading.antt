@@ -6,7 +6,7 @@ use Rattle.std.specs.List.{filter_map}
 use Rattle.std.specs.Option.{unwrap_or}
 use Rattle.std.specs.Str.{chars}
 use Rattle.toml.specs.Data.{Data}
-use Rattle.style_read.specs.Document.{document, text_of, text_at, values_at}
+use Rattle.style_read.specs.Document.{document, text_value, text_at, values_at}
 use Rattle.style_read.specs.Causes.{fault_of, selections_of, tables_of, columns_of, source_word}
 use Rattle.style_read.specs.Condition.{tag_condition, condition_of}
 use Rattle.style_read.specs.Column.{column_of}
@@ -28,10 +28,10 @@ use Rattle.style_read.specs.declared.style.TableDef.{TableDef}
 
 -- the conditions that a list writes
 abbrev pub tag_conditions : List Data → List Condition
-tag_conditions values = filter_map (λ value. tag_condition (text_of value)) values
+tag_conditions values = filter_map (λ value. tag_condition (text_value value)) values
 
 abbrev pub conditions : (selections : List Data) → List Data → List Condition
-conditions selections values = filter_map (λ value. condition_of selections (text_of value)) values
+conditions selections values = filter_map (λ value. condition_of selections (text_value value)) values
 
 -- the selection that a part writes
 unfoldable pub selection : Data → Selection

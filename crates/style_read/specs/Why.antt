@@ -5,14 +5,14 @@ use Rattle.style_read.specs.declared.fault.StyleWhy.TheVariants.{Toml, UnknownKe
 use Rattle.style_read.specs.declared.fault.StyleWhy.TheVariants.{Column, UnknownSelection, TooMany}
 
 -- the number of a cause
-abbrev pub number_of : StyleWhy → ℕ
-number_of Toml = 1
-number_of UnknownKey = 2
-number_of MissingKey = 3
-number_of WrongType = 4
-number_of Name = 5
-number_of SourceGeometry = 6
-number_of Condition = 7
-number_of Column = 8
-number_of UnknownSelection = 9
-number_of TooMany = 10
+abbrev pub cause_number : StyleWhy → ℕ
+cause_number Toml = 1
+cause_number UnknownKey = 2
+cause_number MissingKey = 3
+cause_number WrongType = 4
+cause_number Name = 5
+cause_number SourceGeometry = 6
+cause_number Condition = 7
+cause_number Column = 8
+cause_number UnknownSelection = 9
+cause_number TooMany = 10

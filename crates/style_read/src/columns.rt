@@ -10,7 +10,7 @@ ghost use Rattle.style_read.specs.declared.words.Level.TheVariants as levels;
 
 use crate::column::{column_of, is_bad_column};
 use crate::condition::asks_unknown;
-use crate::document::{lacks, may_have_text, text_at, text_of};
+use crate::document::{lacks, may_have_text, text_at, text_value};
 use crate::selections::has_bad_name;
 use crate::style::{Columns, MAX_SELECTIONS};
 use crate::words::{Level, has_other_key, is_type};
@@ -47,7 +47,7 @@ fn may_have_type(column: &Value) -> bool
     ensures kind { result ≡ may_have spec.is_type_word (codes "type") (view column.now) }
 {
     match column.get("type") {
-        Some(value) => value.is_str() && is_type(text_of(value)),
+        Some(value) => value.is_str() && is_type(text_value(value)),
         None => true,
     }
 }

@@ -34,8 +34,8 @@ fn read_text(alloc: Global, text: &str) -> Result<Option<Value>, OutOfMemory>
 }
 
 /// The text that a value is.
-pub(crate) fn text_of(value: &Value) -> &str
-    ensures text { result.now ≡ spec.text_of (view value.now) }
+pub(crate) fn text_value(value: &Value) -> &str
+    ensures text { result.now ≡ spec.text_value (view value.now) }
 {
     match value.as_str() {
         Some(text) => text,
@@ -59,7 +59,7 @@ pub(crate) fn text_at<'a>(part: &'a Value, key: &str) -> &'a str
     ensures text { result.now ≡ spec.text_at key.now (view part.now) }
 {
     match part.get(key) {
-        Some(value) => text_of(value),
+        Some(value) => text_value(value),
         None => "",
     }
 }

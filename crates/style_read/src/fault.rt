@@ -1,6 +1,6 @@
 //! Why bytes are no style.
 ghost use Rattle.std.specs.Prelude.{◌≡◌};
-ghost use Rattle.style_read.specs.Why.{number_of};
+ghost use Rattle.style_read.specs.Why.{cause_number};
 ghost use Rattle.style_read.specs.declared.fault.StyleFault.TheVariants.{OutOfMemory};
 
 use std::alloc::{AllocError, AllocFailed};
@@ -34,7 +34,7 @@ pub enum StyleWhy {
 impl StyleWhy {
     /// The number of the cause.
     pub fn number(&self) -> u8
-        ensures number { result ≡ number_of self.now }
+        ensures number { result ≡ cause_number self.now }
     {
         match self {
             StyleWhy::Toml => 1,

@@ -4,11 +4,11 @@ ghost use Rattle.std.specs.List.{list_any, filter_map};
 ghost use Rattle.toml.specs.View.{view};
 ghost use Rattle.style_read.specs.Causes as spec;
 ghost use Rattle.style_read.specs.Condition.{is_bad_condition, is_named, tag_condition};
-ghost use Rattle.style_read.specs.Document.{text_of};
+ghost use Rattle.style_read.specs.Document.{text_value};
 ghost use Rattle.style_read.specs.Reading as reading;
 
 use crate::condition::{is_bad_condition, is_named, tag_condition};
-use crate::document::{lacks, may_have_text, may_have_texts, text_at, text_of, values_at};
+use crate::document::{lacks, may_have_text, may_have_texts, text_at, text_value, values_at};
 use crate::fault::StyleWhy;
 use crate::name::is_name;
 use crate::part::Part;
@@ -91,11 +91,11 @@ pub(crate) fn has_bad_condition(part: &Value, key: &str, may_select: bool) -> bo
 
 /// Whether a value is no condition.
 fn some_is_bad(values: &[Value], may_select: bool) -> bool
-    ensures bad { result ≡ list_any (λ value. is_bad_condition may_select (text_of (view value))) values.now }
+    ensures bad { result ≡ list_any (λ value. is_bad_condition may_select (text_value (view value))) values.now }
 {
     values
         .iter()
-        .any(|value| is_bad_condition(text_of(value), may_select))
+        .any(|value| is_bad_condition(text_value(value), may_select))
 }
 
 /// The selection that a part writes.
@@ -116,7 +116,7 @@ fn tag_conditions(alloc: Global, values: &[Value]) -> Result<Conditions, OutOfMe
 {
     let mut made = Items::new(alloc);
     for value in values {
-        if let Some(condition) = tag_condition(alloc, text_of(value))? {
+        if let Some(condition) = tag_condition(alloc, text_value(value))? {
             made.push(condition)?;
         }
     }

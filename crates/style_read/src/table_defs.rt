@@ -5,7 +5,7 @@ ghost use Rattle.style_read.specs.Reading as reading;
 
 use crate::columns::columns;
 use crate::condition::condition_of;
-use crate::document::{text_at, text_of, values_at};
+use crate::document::{text_at, text_value, values_at};
 use crate::style::{Conditions, MAX_SELECTIONS, Mode, Source, TableDef, TableDefs};
 use crate::tables::{columns_of, source_word};
 use crate::words::{mode_of, source_of};
@@ -72,7 +72,7 @@ fn conditions(
 {
     let mut made = Items::new(alloc);
     for value in values {
-        if let Some(condition) = condition_of(alloc, selections, text_of(value))? {
+        if let Some(condition) = condition_of(alloc, selections, text_value(value))? {
             made.push(condition)?;
         }
     }

@@ -4,7 +4,7 @@ ghost use Rattle.std.specs.List.{list_any};
 ghost use Rattle.toml.specs.View.{view};
 ghost use Rattle.style_read.specs.Causes as spec;
 ghost use Rattle.style_read.specs.Condition.{asks_unknown};
-ghost use Rattle.style_read.specs.Document.{may_have, text_of};
+ghost use Rattle.style_read.specs.Document.{may_have, text_value};
 
 use crate::columns::{
     has_bad_column_name, some_has_other_key, some_has_other_types, some_is_bad,
@@ -12,7 +12,7 @@ use crate::columns::{
 };
 use crate::condition::asks_unknown;
 use crate::document::{
-    lacks, may_have_tables, may_have_text, may_have_texts, text_at, text_of, values_at,
+    lacks, may_have_tables, may_have_text, may_have_texts, text_at, text_value, values_at,
 };
 use crate::fault::StyleWhy;
 use crate::part::Part;
@@ -118,7 +118,7 @@ fn may_have_source(part: &Value) -> bool
     ensures source { result ≡ may_have spec.is_source (codes "source") (view part.now) }
 {
     match part.get("source") {
-        Some(value) => value.is_str() && source_of(text_of(value)).is_some(),
+        Some(value) => value.is_str() && source_of(text_value(value)).is_some(),
         None => true,
     }
 }
@@ -128,7 +128,7 @@ fn may_have_geometry(part: &Value) -> bool
     ensures geometry { result ≡ may_have spec.is_geometry_word (codes "geometry") (view part.now) }
 {
     match part.get("geometry") {
-        Some(value) => value.is_str() && is_geometry(text_of(value)),
+        Some(value) => value.is_str() && is_geometry(text_value(value)),
         None => true,
     }
 }
@@ -138,7 +138,7 @@ fn may_have_mode(part: &Value) -> bool
     ensures mode { result ≡ may_have spec.is_mode (codes "expire") (view part.now) }
 {
     match part.get("expire") {
-        Some(value) => value.is_str() && mode_of(text_of(value)).is_some(),
+        Some(value) => value.is_str() && mode_of(text_value(value)).is_some(),
         None => true,
     }
 }
@@ -196,9 +196,9 @@ fn asks_unknown_at(selections: &[Value], part: &Value, key: &str) -> bool
 
 /// Whether a value asks for a selection that is not there.
 fn some_asks_unknown(selections: &[Value], values: &[Value]) -> bool
-    ensures unknown { result ≡ list_any (λ value. asks_unknown (map view selections.now) (text_of (view value))) values.now }
+    ensures unknown { result ≡ list_any (λ value. asks_unknown (map view selections.now) (text_value (view value))) values.now }
 {
     values
         .iter()
-        .any(|value| asks_unknown(selections, text_of(value)))
+        .any(|value| asks_unknown(selections, text_value(value)))
 }

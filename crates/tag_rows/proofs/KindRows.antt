@@ -15,7 +15,7 @@ use Rattle.osm_base.specs.declared.values.object.Object.{Object}
 use Rattle.osm_base.specs.map.Objects.{ObjectSet}
 use Rattle.osm_base.specs.map.Listers.{is_kind}
 use Rattle.object_fold.proofs.Listers.{key, kind_same, tied-ids, untied-kinds}
-use Rattle.tag_rows.specs.RowsById.{RowMap, text_of}
+use Rattle.tag_rows.specs.RowsById.{RowMap, all_rows_text}
 use Rattle.tag_rows.specs.WayRows.{some_row}
 
 -- the row with this id in front, where it is not empty
@@ -171,7 +171,7 @@ module _ (own : Kind) (row : ℕ → Option Object → List ℕ) (none : (id : �
   -- rows that are those of the objects are the objects' text
   pub text-entries : (rows : RowMap) (objects : ObjectSet)
       → ((id : ℕ) → finite.get rows id ≡ some_row (row id (finite.get objects (key own id))))
-      → text_of rows ≡ flat_map entry_line (finite.entries objects)
+      → all_rows_text rows ≡ flat_map entry_line (finite.entries objects)
   text-entries rows objects are =
       let held = finite.entries objects in
       let sorted = sorted_lines held (finite.entries_sorted objects) in

@@ -14,7 +14,7 @@ use Rattle.osm_base.specs.declared.values.object.Entry.{Entry}
 use Rattle.osm_base.specs.map.Objects.{ObjectSet, with_object, folded, folded_all}
 use Rattle.object_fold.proofs.FoldLaws.{get-with_object}
 use Rattle.osm_base.specs.map.Listers.{is_kind}
-use Rattle.tag_rows.specs.Points.{node_row, of_node, row_of, points_text}
+use Rattle.tag_rows.specs.Points.{node_row, of_node, tag_row, points_text}
 use Rattle.tag_rows.specs.PointRows.{Rows, with_row, after_kind, after_entry, after_entries, no_rows, rows_text, node_row_at, Shows, shown}
 use Rattle.tag_rows.specs.WayRows.{some_row}
 use Rattle.tag_rows.proofs.KindRows.{same_id, text-entries}
@@ -38,7 +38,7 @@ either_row key own at id object found row false owned is kept = kept
 kept_kind : (key : List ℕ) (kind : Kind) (id : ℕ) (object : Option Object) (points : Rows) (objects : ObjectSet) → Keeps key points objects
     → Keeps key (after_kind kind points (record { key = record { kind = kind; id = id }; object = object }))
     (with_object objects (record { kind = kind; id = id }) object)
-unfolding row_of
+unfolding tag_row
 kept_kind key Node id object points objects kept = record {
   key_is = kept.key_is;
   rows_are = λ at. get-with_row points id _ at

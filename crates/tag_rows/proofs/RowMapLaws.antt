@@ -17,7 +17,7 @@ use Rattle.std.specs.FinMap.Entries.{below_all}
 use Rattle.std.specs.FinMap as finite
 use Rattle.std.specs.BTreeMap.{BTreeMap, Updates, get}
 use Rattle.osm_base.proofs.Found.{found, inserted, removed}
-use Rattle.tag_rows.specs.RowsById.{RowMap, set_row, text_of}
+use Rattle.tag_rows.specs.RowsById.{RowMap, set_row, all_rows_text}
 
 -- a sorted list of entries is that of its map
 
@@ -50,7 +50,7 @@ texts : (es : List (ℕ × List ℕ)) → flat_map (λ entry. entry.1) es ≡ co
 texts [] = refl
 texts (entry ∷ es) = ap (λ (later : List ℕ). entry.1 ++ later) (texts es)
 
-pub kept_text : (es : List (ℕ × List ℕ)) → IsStrictlySortedBy nat_cmp (keys_of es) → text_of (from_entries es) ≡ concat (values_of es)
+pub kept_text : (es : List (ℕ × List ℕ)) → IsStrictlySortedBy nat_cmp (keys_of es) → all_rows_text (from_entries es) ≡ concat (values_of es)
 kept_text es h = ap (flat_map (λ entry. entry.1)) (same_entries es h) ∙ texts es
 
 -- a list whose length is tested

@@ -28,7 +28,7 @@ use Rattle.osm_base.specs.values.Ids.{has}
 use Rattle.row_rules.specs.Shape.{line_in}
 use Rattle.dep_closure.specs.Ways.{Leaves}
 use Rattle.tag_rows.specs.TrimmedChange.{trimmed_object, trimmed_entry, with_entry}
-use Rattle.tag_rows.specs.RowsById.{RowMap, set_row, text_of}
+use Rattle.tag_rows.specs.RowsById.{RowMap, set_row, all_rows_text}
 use Rattle.tag_rows.specs.Lines.{way_row, object_row, of_way, lines_text}
 use Rattle.tag_rows.specs.WayRows.{some_row, row_at, AreRows, after_way}
 use Rattle.tag_rows.proofs.KindRows.{same_id, text-entries, rows_in, get-rows_in}
@@ -39,7 +39,7 @@ of_way-cond kinds.Way text = refl
 of_way-cond kinds.Relation text = refl
 
 -- the text of right rows
-pub text-rows : (key : List ℕ) (objects : ObjectSet) (rows : RowMap) → AreRows key objects rows → text_of rows ≡ lines_text key objects
+pub text-rows : (key : List ℕ) (objects : ObjectSet) (rows : RowMap) → AreRows key objects rows → all_rows_text rows ≡ lines_text key objects
 text-rows key objects rows right =
     text-entries kinds.Way (object_row key (known_of objects).place) (λ id. refl) rows objects right
     ∙ λ i. flat_map (λ (entry : KeyOf × Object).

@@ -6,8 +6,8 @@ use Rattle.osm_base.specs.declared.values.key.Kind.{Kind}
 use Rattle.osm_base.specs.declared.values.key.Kind.TheVariants as kinds
 use Rattle.osm_base.specs.declared.values.object.Entry.{Entry}
 use Rattle.osm_base.specs.map.Objects.{ObjectSet}
-use Rattle.tag_rows.specs.RowsById.{RowMap, set_row, text_of}
-use Rattle.tag_rows.specs.Points.{row_of, node_row}
+use Rattle.tag_rows.specs.RowsById.{RowMap, set_row, all_rows_text}
+use Rattle.tag_rows.specs.Points.{tag_row, node_row}
 
 -- the key that is asked for, and the rows of the nodes that have one, by their ids
 pub record Rows : Type 0 where
@@ -26,7 +26,7 @@ with_row points id row = record { key = points.key; rows = set_row points.rows i
 
 -- after an entry of this kind
 abbrev pub after_kind : Kind → Rows → Entry → Rows
-after_kind kinds.Node points entry = with_row points entry.key.id (row_of points.key entry)
+after_kind kinds.Node points entry = with_row points entry.key.id (tag_row points.key entry)
 after_kind kinds.Way points entry = points
 after_kind kinds.Relation points entry = points
 
@@ -36,7 +36,7 @@ after_entry points entry = after_kind entry.key.kind points entry
 
 -- the rows in order
 abbrev pub rows_text : Rows → List ℕ
-rows_text points = text_of points.rows
+rows_text points = all_rows_text points.rows
 
 -- the row of a node of these objects, or nothing
 abbrev pub node_row_at : List ℕ → ObjectSet → ℕ → List ℕ

@@ -25,8 +25,8 @@ node_row key id (Some (Node (Some place) tags)) = option_map_or (λ value. point
 node_row key id _ = []
 
 -- the row of an entry, where it has one
-unfoldable pub row_of : (key : List ℕ) → Entry → List ℕ
-row_of key entry = node_row key entry.key.id entry.object
+unfoldable pub tag_row : (key : List ℕ) → Entry → List ℕ
+tag_row key entry = node_row key entry.key.id entry.object
 
 -- this row, where a key of this kind is that of a node
 abbrev pub of_node : Kind → List ℕ → List ℕ

@@ -13,5 +13,5 @@ set_row rows id [] = finite.remove rows id
 set_row rows id (byte ∷ bytes) = finite.insert rows id (byte ∷ bytes)
 
 -- the rows one after another, by rising id
-abbrev pub text_of : RowMap → List ℕ
-text_of rows = flat_map (λ (id, row). row) (finite.entries rows)
+abbrev pub all_rows_text : RowMap → List ℕ
+all_rows_text rows = flat_map (λ (id, row). row) (finite.entries rows)

@@ -2,7 +2,7 @@
 ghost use Rattle.std.specs.Prelude.{◌≡◌, IfOk, OnOk};
 ghost use Rattle.std.specs.Str.{chars};
 ghost use Rattle.tag_rows.specs.PointRows.{no_rows, with_row, rows_text};
-ghost use Rattle.tag_rows.specs.Points.{row_of};
+ghost use Rattle.tag_rows.specs.Points.{tag_row};
 
 use crate::point_row::push_point;
 use crate::rows_by_id::RowsById;
@@ -44,7 +44,7 @@ impl<'k> PointRows<'k> {
 
     /// Keeps the row of a node, or none where it has none.
     fn keep_node(&mut self, entry: &Entry) -> Result<(), OutOfMemory>
-        ensures ok { OnOk result (self.new ≡ with_row self.old entry.now.key.id (row_of self.old.key entry.now)) }
+        ensures ok { OnOk result (self.new ≡ with_row self.old entry.now.key.id (tag_row self.old.key entry.now)) }
     {
         self.scratch.clear();
         push_point(&mut self.scratch, self.key, entry)?;

@@ -1,7 +1,7 @@
 //! Rows by ids.
 ghost use Rattle.std.specs.Prelude.{◌≡◌, IfOk, OnOk};
 ghost use Rattle.std.specs.FinMap as map;
-ghost use Rattle.tag_rows.specs.RowsById.{set_row, text_of};
+ghost use Rattle.tag_rows.specs.RowsById.{set_row, all_rows_text};
 
 use osm_base::{Bytes, OutOfMemory};
 use std::alloc::Global;
@@ -65,7 +65,7 @@ impl RowsById {
 
     /// All rows, by rising id.
     pub fn text(&self) -> Result<Vec<u8>, OutOfMemory>
-        ensures text { IfOk result (λ text. text.items ≡ text_of self.now) }
+        ensures text { IfOk result (λ text. text.items ≡ all_rows_text self.now) }
     {
         let mut text = Vec::new(self.alloc);
         for row in self.rows.values() {

@@ -5,7 +5,7 @@ use Rattle.std.proofs.Math.Nat.{pow-le-pow_right}
 use Rattle.std.specs.List.{AllByRecursion}
 use Rattle.std.proofs.lemmas.Bool.Decides.{nat_tests}
 use Rattle.tile_cover.specs.declared.runs.Run.{Run}
-use Rattle.tile_cover.specs.Runs.{IsRun, IsTileSet, AreApart, BeginsLater, Follows, Adds, start_of, holds, has, joins, joined, pushed}
+use Rattle.tile_cover.specs.Runs.{IsRun, IsTileSet, AreApart, BeginsLater, Follows, Adds, start_of, holds, has, joins, joined_runs, pushed}
 
 -- what two runs that join, or do not, say of each other
 tells_joins : (p q r : Bool) → (p && (q && r)) ≡ true → (p ≡ true) × (q ≡ true) × (r ≡ true)
@@ -43,16 +43,16 @@ columns_joined true true a b c d x e f g h = grind (arith, nat_tests)
 columns_joined true false a b c d x e f g h = refl
 columns_joined false q a b c d x e f g h = refl
 
-pub holds-joined : (run next : Run) (zoom x y : ℕ) → IsRun run → IsRun next → start_of run ≤ start_of next → joins run next ≡ true
-    → holds zoom x y (joined run next) ≡ (holds zoom x y run || holds zoom x y next)
-holds-joined run next zoom x y this that later e =
+pub holds-joined_runs : (run next : Run) (zoom x y : ℕ) → IsRun run → IsRun next → start_of run ≤ start_of next → joins run next ≡ true
+    → holds zoom x y (joined_runs run next) ≡ (holds zoom x y run || holds zoom x y next)
+holds-joined_runs run next zoom x y this that later e =
     let j = joins-true run next e in
     rw (j.same_zoom, j.same_row)
     (columns_joined (run.zoom == zoom) (run.y == y) run.first run.last next.first next.last x this.ordered that.ordered
     (omega arith) j.touch)
 
-pub IsRun-joined : (run next : Run) → IsRun run → IsRun next → joins run next ≡ true → IsRun (joined run next)
-IsRun-joined run next this that e =
+pub IsRun-joined_runs : (run next : Run) → IsRun run → IsRun next → joins run next ≡ true → IsRun (joined_runs run next)
+IsRun-joined_runs run next this that e =
     let j = joins-true run next e in
     let column : next.last < 2 ^ run.zoom = rw (← j.same_zoom) that.column in
     record {
@@ -98,7 +98,7 @@ follows_later run next other e f g = omega arith
 
 -- the last run of a list gives way to the two of it and the next one joined
 pub set-pushed : (runs : List Run) (i : ℕ) (run next : Run) → i + 1 ≡ length runs → run ≡ get_or runs i run → joins run next ≡ true
-    → set runs i (joined run next) ≡ pushed runs next
+    → set runs i (joined_runs run next) ≡ pushed runs next
 set-pushed [] i run next e f g = absurd (omega arith)
 set-pushed (one ∷ []) zero run next e f g =
     let same : run ≡ one = f in
@@ -133,9 +133,9 @@ last_or false true = refl
 last_or false false = refl
 
 one_has : (run next : Run) (zoom x y : ℕ) (join : Bool) → IsRun run → IsRun next → start_of run ≤ start_of next → join ≡ joins run next
-    → has (cond join (joined run next ∷ []) (run ∷ next ∷ [])) zoom x y ≡ (has (run ∷ []) zoom x y || holds zoom x y next)
+    → has (cond join (joined_runs run next ∷ []) (run ∷ next ∷ [])) zoom x y ≡ (has (run ∷ []) zoom x y || holds zoom x y next)
 one_has run next zoom x y true this that later e =
-    rw (holds-joined run next zoom x y this that later (sym e)) (last_or (holds zoom x y run) (holds zoom x y next))
+    rw (holds-joined_runs run next zoom x y this that later (sym e)) (last_or (holds zoom x y run) (holds zoom x y next))
 one_has run next zoom x y false this that later e =
     rw (or_false (holds zoom x y next)) (or_again (holds zoom x y run) false (holds zoom x y next))
 
@@ -149,8 +149,8 @@ has-pushed (run ∷ other ∷ runs) next zoom x y each that later =
 
 -- and they stay the runs of a set
 one_each : (run next : Run) (join : Bool) → IsRun run → IsRun next → join ≡ joins run next
-    → AllByRecursion IsRun (cond join (joined run next ∷ []) (run ∷ next ∷ []))
-one_each run next true this that e = (IsRun-joined run next this that (sym e), tt)
+    → AllByRecursion IsRun (cond join (joined_runs run next ∷ []) (run ∷ next ∷ []))
+one_each run next true this that e = (IsRun-joined_runs run next this that (sym e), tt)
 one_each run next false this that e = (this, (that, tt))
 
 each_pushed : (runs : List Run) (next : Run) → AllByRecursion IsRun runs → IsRun next → AllByRecursion IsRun (pushed runs next)
@@ -159,7 +159,7 @@ each_pushed (run ∷ []) next each that = one_each run next (joins run next) eac
 each_pushed (run ∷ other ∷ runs) next each that = (each.0, each_pushed (other ∷ runs) next each.1 that)
 
 one_follows : (before run next : Run) (join : Bool) → Follows before run → run.first ≤ run.last → start_of run ≤ start_of next
-    → AllByRecursion (Follows before) (cond join (joined run next ∷ []) (run ∷ next ∷ []))
+    → AllByRecursion (Follows before) (cond join (joined_runs run next ∷ []) (run ∷ next ∷ []))
 one_follows before run next true e f g = (e, tt)
 one_follows before run next false e f g = (e, (follows_later before run next e f g, tt))
 
@@ -171,7 +171,7 @@ all_follow before (run ∷ []) next each e f g = one_follows before run next (jo
 all_follow before (run ∷ other ∷ runs) next each e f g = (e.0, all_follow before (other ∷ runs) next each.1 e.1 f.1 g)
 
 one_apart : (run next : Run) (join : Bool) → IsRun run → IsRun next → start_of run ≤ start_of next → join ≡ joins run next
-    → AreApart (cond join (joined run next ∷ []) (run ∷ next ∷ []))
+    → AreApart (cond join (joined_runs run next ∷ []) (run ∷ next ∷ []))
 one_apart run next true this that later e = (tt, tt)
 one_apart run next false this that later e = ((follows run next this that later (sym e), tt), (tt, tt))
 
@@ -189,7 +189,7 @@ IsTileSet-pushed runs next set that later =
     record { each = each_pushed runs next set.each that; apart = apart_pushed runs next set.each set.apart that later }
 
 one_later : (run next other : Run) (join : Bool) → start_of run ≤ start_of other → start_of next ≤ start_of other
-    → BeginsLater (cond join (joined run next ∷ []) (run ∷ next ∷ [])) other
+    → BeginsLater (cond join (joined_runs run next ∷ []) (run ∷ next ∷ [])) other
 one_later run next other true e f = (e, tt)
 one_later run next other false e f = (e, (f, tt))
 

@@ -108,7 +108,7 @@ pub within_world : (A B M k m H : ℕ) → A ≤ M → B ≤ M → k + m ≡ H �
 within_world A B M k m H e f sum =
     let g : k * B ≤ k * M = mul-le k B k M (omega arith) f in
     let h : m * A ≤ m * M = mul-le m A m M (omega arith) e in
-    rw (← sum) (joined k m M (k * B) (m * A) g h)
+    rw (← sum) (joined_runs k m M (k * B) (m * A) g h)
   where
-    joined : (k m M x y : ℕ) → x ≤ k * M → y ≤ m * M → x + y ≤ M * (k + m)
-    joined k m M x y e f = omega arith
+    joined_runs : (k m M x y : ℕ) → x ≤ k * M → y ≤ m * M → x + y ≤ M * (k + m)
+    joined_runs k m M x y e f = omega arith

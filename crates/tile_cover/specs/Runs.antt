@@ -22,14 +22,14 @@ pub record IsRun (run : Run) : Type 0 where
 
 -- the number of a run's first column and of its last one, counted over all rows of all zooms, each of which has room
 -- for twice the columns that it may have
-abbrev pub row_of : Run → ℕ
-row_of run = run.zoom * 65536 + run.y
+abbrev pub run_row : Run → ℕ
+run_row run = run.zoom * 65536 + run.y
 
 abbrev pub start_of : Run → ℕ
-start_of run = row_of run * 131072 + run.first
+start_of run = run_row run * 131072 + run.first
 
 abbrev pub end_of : Run → ℕ
-end_of run = row_of run * 131072 + run.last
+end_of run = run_row run * 131072 + run.last
 
 -- a run stands in a later row than another one, or in its row with a column between them
 abbrev pub Follows : Run → Run → Type 0
@@ -59,11 +59,11 @@ abbrev pub joins : Run → Run → Bool
 joins run next = (run.zoom == next.zoom) && ((run.y == next.y) && nat_le next.first (run.last + 1))
 
 -- one run of the columns of two that join
-abbrev pub joined : Run → Run → Run
-joined run next = record { zoom = run.zoom; y = run.y; first = run.first; last = max run.last next.last }
+abbrev pub joined_runs : Run → Run → Run
+joined_runs run next = record { zoom = run.zoom; y = run.y; first = run.first; last = max run.last next.last }
 
 -- runs with one more at their end, joined to the last of them where they overlap or touch
 abbrev pub pushed : List Run → Run → List Run
 pushed [] next = next ∷ []
-pushed (run ∷ []) next = if joins run next then joined run next ∷ [] else run ∷ next ∷ []
+pushed (run ∷ []) next = if joins run next then joined_runs run next ∷ [] else run ∷ next ∷ []
 pushed (run ∷ other ∷ runs) next = run ∷ pushed (other ∷ runs) next

@@ -1,7 +1,7 @@
 //! A set of tiles, as runs of columns.
 ghost use Rattle.std.specs.Prelude.{◌≡◌, ◌≤◌, [], ◌∷◌, ◌++◌, length, OnOk, OnErr};
 ghost use Rattle.std.specs.List.{AllByRecursion, splice};
-ghost use Rattle.tile_cover.specs.Runs.{IsRun, IsTileSet, BeginsLater, Adds, Follows, joins, joined};
+ghost use Rattle.tile_cover.specs.Runs.{IsRun, IsTileSet, BeginsLater, Adds, Follows, joins, joined_runs};
 
 use osm_base::OutOfMemory;
 use std::alloc::Global;
@@ -51,8 +51,8 @@ fn joins(run: Run, next: Run) -> bool
 }
 
 /// One run of the columns of two that join.
-fn joined(run: Run, next: Run) -> Run
-    ensures { result ≡ joined run next }
+fn joined_runs(run: Run, next: Run) -> Run
+    ensures { result ≡ joined_runs run next }
 {
     Run {
         zoom: run.zoom,
@@ -75,7 +75,7 @@ fn push_run(runs: &mut Vec<Run>, run: Run) -> Result<(), OutOfMemory>
     if count > 0 {
         let last = runs[count - 1];
         if joins(last, run) {
-            runs[count - 1] = joined(last, run);
+            runs[count - 1] = joined_runs(last, run);
             return Ok(());
         }
     }

@@ -29,7 +29,7 @@ use Rattle.store_maps.specs.Asked.{row_key}
 use Rattle.row_store.specs.Maps.{map_of as rows_map_of}
 use Rattle.row_store.specs.Rows.{rows_bytes, AreRows}
 use Rattle.back_index.specs.Asking.{reads_none}
-use Rattle.back_index.specs.Calls.{Answers}
+use Rattle.back_index.specs.Calls.{IsAnswered}
 use Rattle.back_index.specs.Ids.{ids_bytes, AreListed}
 use Rattle.back_index.specs.Reads.{HasReadOnly, ReadsBuckets}
 use Rattle.back_index.specs.Relisting.{IsUnread, ReadsIds}
@@ -121,7 +121,7 @@ module _ {D : Type 0} {g : Ghosts D} (old new : Buckets D g) where
   }
 
   -- a call on the index
-  pub touched_index : {T : Type 0} (result : Result T StoreFault) → Answers old new result → OnOk result (ReadsBuckets old new)
+  pub touched_index : {T : Type 0} (result : Result T StoreFault) → IsAnswered old new result → OnOk result (ReadsBuckets old new)
       → Touched old new result
   touched_index result does reads = record {
     stays = does.stays;
@@ -132,7 +132,7 @@ module _ {D : Type 0} {g : Ghosts D} (old new : Buckets D g) where
     reads = reads;
   }
 
-  pub answers_of : {T : Type 0} (result : Result T StoreFault) → Touched old new result → Answers old new result
+  pub answers_of : {T : Type 0} (result : Result T StoreFault) → Touched old new result → IsAnswered old new result
   answers_of result does = record {
     stays = does.stays;
     alone = does.alone;

@@ -15,7 +15,7 @@ use Rattle.bucket_store.proofs.Holding.{rests_later}
 use Rattle.update_flow.specs.AtRest.{HasFlowCause}
 use Rattle.update_flow.specs.Opening.{HoldsState}
 use Rattle.update_flow.specs.State.{State, style_in, was_imported}
-use Rattle.update_flow.specs.Within.{Runs}
+use Rattle.update_flow.specs.Within.{RunsWithin}
 use Rattle.update_flow.specs.declared.fields.TheConstants.{STYLE_TEXT}
 use Rattle.update_flow.proofs.Openings.{style_one}
 use Rattle.update_flow.specs.declared.fault.FlowFault.{FlowFault}
@@ -28,7 +28,7 @@ module _ {D : Type 0} {g : Ghosts D} (old new : Buckets D g) (first last : D) (t
       subst (λ (d : D). Stays (g.view first) (g.view d)) (sym given)
       (subst (λ (d : D). Stays (g.view d) (g.view (disk_of (journal_of (chains_of new))))) taken looks.looked.stays)
 
-  pub runs_cause : (fault : Option FlowFault) → Runs old new fault → HasFlowCause fault (g.view first) (g.view last)
+  pub runs_cause : (fault : Option FlowFault) → RunsWithin old new fault → HasFlowCause fault (g.view first) (g.view last)
   runs_cause fault runs =
       subst (λ (d : D). HasFlowCause fault (g.view first) (g.view d)) (sym given)
       (subst (λ (d : D). HasFlowCause fault (g.view d) (g.view (disk_of (journal_of (chains_of new))))) taken

@@ -31,7 +31,7 @@ use Rattle.bucket_store.proofs.Images.{part_gives, part_none}
 use Rattle.bucket_store.proofs.TypedLaws.{read_same}
 use Rattle.middle_nodes.specs.Old.{IsOldPlace, IsOldRecord, old_bytes, old_record_bytes, unknown}
 use Rattle.value_bytes.specs.Nodes.{IsRecord, record_bytes}
-use Rattle.value_bytes.specs.StoreMap.{number_of}
+use Rattle.value_bytes.specs.StoreMap.{map_number}
 use Rattle.value_bytes.specs.declared.store_map.StoreMap.TheVariants.{Nodes}
 use Rattle.value_bytes.specs.declared.nodes.NodeRecord.{NodeRecord}
 use Rattle.value_bytes.specs.Objects.{object_bytes, IsStored}
@@ -122,21 +122,21 @@ among_in values (one ∷ records) id each (inl same) = (one.1, subst (λ (k : �
 among_in values (one ∷ records) id each (inr more) = among_in values records id each.1 more
 
 -- the records of a bucket are those of its map, and they alone are of the bucket
-module _ (now : Image) (bucket : ℕ) (records : List (ℕ × List ℕ)) (are : IsBucketOf now (number_of Nodes) bucket records) where
+module _ (now : Image) (bucket : ℕ) (records : List (ℕ × List ℕ)) (are : IsBucketOf now (map_number Nodes) bucket records) where
   own_are : AreIn are.own records
   own_are = subst (AreIn are.own) (sym are.are) (entries_in are.own)
 
   of_bucket : (id : ℕ) (bytes : List ℕ) → finite.get are.own id ≡ Some bytes → id % now.root.buckets ≡ bucket
   of_bucket id bytes same = elim (cases_eq (id % now.root.buckets) bucket) [
     | inl mine ↦ mine
-    | inr apart ↦ absurd (nothing bytes (sym (part_none now.root.buckets bucket (now.maps (number_of Nodes)) are.own id are.part apart)
+    | inr apart ↦ absurd (nothing bytes (sym (part_none now.root.buckets bucket (now.maps (map_number Nodes)) are.own id are.part apart)
         ∙ same))
   ]
 
   pub records_there : AreThere now records
   records_there =
-      each_so (λ one. finite.get are.own one.0 ≡ Some one.1) (λ one. finite.get (now.maps (number_of Nodes)) one.0 ≡ Some one.1) records
-      (λ one same. sym (part_gives now.root.buckets bucket (now.maps (number_of Nodes)) are.own one.0 are.part (of_bucket one.0 one.1 same))
+      each_so (λ one. finite.get are.own one.0 ≡ Some one.1) (λ one. finite.get (now.maps (map_number Nodes)) one.0 ≡ Some one.1) records
+      (λ one same. sym (part_gives now.root.buckets bucket (now.maps (map_number Nodes)) are.own one.0 are.part (of_bucket one.0 one.1 same))
       ∙ same)
       own_are
 
@@ -146,13 +146,13 @@ module _ (now : Image) (bucket : ℕ) (records : List (ℕ × List ℕ)) (are : 
   pub renews_bucket : (after : Image) → Renews (Among records) now after → Renews (λ id. id % now.root.buckets ≡ bucket) now after
   renews_bucket after renews = record {
     only = renews.only;
-    here = λ id mine. elim (some_or_none (finite.get (now.maps (number_of Nodes)) id)) [
+    here = λ id mine. elim (some_or_none (finite.get (now.maps (map_number Nodes)) id)) [
       | inl some ↦
-          renews.here id (all_among [] None (number_of Nodes) (λ spot. None) now bucket records are id
-          (some_is (finite.get (now.maps (number_of Nodes)) id) some.0 some.1) mine)
+          renews.here id (all_among [] None (map_number Nodes) (λ spot. None) now bucket records are id
+          (some_is (finite.get (now.maps (map_number Nodes)) id) some.0 some.1) mine)
       | inr none ↦
-          subst (λ (o : Option (List ℕ)). IsRenewed o (finite.get (after.maps (number_of Nodes)) id)) (sym none)
-          (renews.beside id (λ among. let found = among_in (now.maps (number_of Nodes)) records id records_there among in
+          subst (λ (o : Option (List ℕ)). IsRenewed o (finite.get (after.maps (map_number Nodes)) id)) (sym none)
+          (renews.beside id (λ among. let found = among_in (now.maps (map_number Nodes)) records id records_there among in
           nothing found.0 (sym none ∙ found.1)) ∙ none)
     ];
     beside = λ id out. renews.beside id (λ among. out (among_mine id among));
@@ -175,27 +175,27 @@ among_at (first ∷ records) zero one within is = inl (ap (λ (e : ℕ × List �
 among_at (first ∷ records) (suc at) one within is = inr (among_at records at one (omega (arith, within)) is)
 
 pub renews_none : (now : Image) → Renews (Among []) now now
-renews_none now = record { only = only_none (number_of Nodes) now; here = λ id none. absurd none; beside = λ id out. refl }
+renews_none now = record { only = only_none (map_number Nodes) now; here = λ id none. absurd none; beside = λ id out. refl }
 
 renews_value : (One All : ℕ → Type 0) (now mid : Image) (own : ℕ) (bytes : List ℕ) (place : Option PlaceOf)
     → ((id : ℕ) → All id → One id ⊎ (own ≡ id))
-    → ((id : ℕ) → One id → All id) → All own → Renews One now mid → finite.get (now.maps (number_of Nodes)) own ≡ Some bytes
+    → ((id : ℕ) → One id → All id) → All own → Renews One now mid → finite.get (now.maps (map_number Nodes)) own ≡ Some bytes
     → IsOldPlace place
     → bytes ≡ old_bytes place
-    → Renews All now (with_value (number_of Nodes) own (Some (record_bytes (unknown place))) mid)
+    → Renews All now (with_value (map_number Nodes) own (Some (record_bytes (unknown place))) mid)
 renews_value One All now mid own bytes place split leads mine before there is same =
-    let after = with_value (number_of Nodes) own (Some (record_bytes (unknown place))) mid in
-    let sets = sets_put (number_of Nodes) own (Some (record_bytes (unknown place))) mid in
+    let after = with_value (map_number Nodes) own (Some (record_bytes (unknown place))) mid in
+    let sets = sets_put (map_number Nodes) own (Some (record_bytes (unknown place))) mid in
     record {
-      only = only_then (number_of Nodes) now mid after before.only sets.only;
+      only = only_then (map_number Nodes) now mid after before.only sets.only;
       here = λ id all. elim (cases_eq id own) [
         | inl this ↦
-            subst (λ (k : ℕ). IsRenewed (finite.get (now.maps (number_of Nodes)) k) (finite.get (after.maps (number_of Nodes)) k))
+            subst (λ (k : ℕ). IsRenewed (finite.get (now.maps (map_number Nodes)) k) (finite.get (after.maps (map_number Nodes)) k))
             (sym this)
-            (subst (λ (o : Option (List ℕ)). IsRenewed o (finite.get (after.maps (number_of Nodes)) own)) (sym there)
+            (subst (λ (o : Option (List ℕ)). IsRenewed o (finite.get (after.maps (map_number Nodes)) own)) (sym there)
             (place, is, same, sets.here))
         | inr apart ↦ elim (split id all) [
-          | inl one ↦ subst (λ (o : Option (List ℕ)). IsRenewed (finite.get (now.maps (number_of Nodes)) id) o) (sym (sets.beside id apart))
+          | inl one ↦ subst (λ (o : Option (List ℕ)). IsRenewed (finite.get (now.maps (map_number Nodes)) id) o) (sym (sets.beside id apart))
               (before.here id one)
           | inr this ↦ absurd (apart (sym this))
         ]
@@ -205,10 +205,10 @@ renews_value One All now mid own bytes place split leads mine before there is sa
 
 pub renews_more : (records : List (ℕ × List ℕ)) (at : ℕ) (one : ℕ × List ℕ) (now mid : Image) (bytes : List ℕ) (place : Option PlaceOf)
     → at < length records
-    → one ≡ get_or records at one → Renews (Among (take at records)) now mid → finite.get (now.maps (number_of Nodes)) one.0 ≡ Some bytes
+    → one ≡ get_or records at one → Renews (Among (take at records)) now mid → finite.get (now.maps (map_number Nodes)) one.0 ≡ Some bytes
     → IsOldPlace place
     → bytes ≡ old_bytes place → Renews (Among (take (at + 1) records)) now
-    (with_value (number_of Nodes) one.0 (Some (record_bytes (unknown place))) mid)
+    (with_value (map_number Nodes) one.0 (Some (record_bytes (unknown place))) mid)
 renews_more records at one now mid bytes place within is before there spelled same =
     let more = take_more records at one within in
     let last : Among (take (at + 1) records) one.0 =
@@ -227,14 +227,14 @@ renews_next now mid after bucket low before second =
     let next = subst (λ (k : ℕ). Renews (IsIn k bucket) mid after) count second in
     let own : bucket % now.root.buckets ≡ bucket = mod-eq_of_lt low in
     record {
-      only = only_then (number_of Nodes) now mid after before.only next.only;
+      only = only_then (map_number Nodes) now mid after before.only next.only;
       here = λ id below. elim (bucket_split id bucket now.root.buckets low below) [
         | inl less ↦
-            subst (λ (o : Option (List ℕ)). IsRenewed (finite.get (now.maps (number_of Nodes)) id) o)
+            subst (λ (o : Option (List ℕ)). IsRenewed (finite.get (now.maps (map_number Nodes)) id) o)
             (sym (next.beside id (λ mine. omega (arith, mine, own, less))))
             (before.here id less)
         | inr mine ↦
-            subst (λ (o : Option (List ℕ)). IsRenewed o (finite.get (after.maps (number_of Nodes)) id))
+            subst (λ (o : Option (List ℕ)). IsRenewed o (finite.get (after.maps (map_number Nodes)) id))
             (before.beside id (λ less. omega (arith, mine, own, less))) (next.here id mine)
       ];
       beside = λ id out. next.beside id (λ mine. out (omega (arith, mine, own))) ∙ before.beside id (λ less. out (omega (arith, less)));
@@ -252,7 +252,7 @@ renews_all now after bucket some past renews = record {
 
 pub renews_first : (now : Image) → Renews (λ id. id % now.root.buckets < 0) now now
 renews_first now = record {
-  only = only_none (number_of Nodes) now;
+  only = only_none (map_number Nodes) now;
   here = λ id none. absurd (omega (arith, none));
   beside =
       λ id out. refl;
@@ -291,7 +291,7 @@ pub renewed_maps : (definitions : List TableDef) (now after : Image) (maps : Map
 renewed_maps definitions now after maps renews held =
     let beside : (m : ℕ) → m ≢ 0 → now.maps m ≡ after.maps m = λ m apart. sym (renews.only.maps m apart) in
     record {
-      nodes = λ id. renewed_one (finite.get (now.maps (number_of Nodes)) id) (finite.get (after.maps (number_of Nodes)) id)
+      nodes = λ id. renewed_one (finite.get (now.maps (map_number Nodes)) id) (finite.get (after.maps (map_number Nodes)) id)
           (finite.get maps.nodes id)
           (renews.here id tt) (held.nodes id);
       ways = subst (λ (b : BucketMap). HoldsMap object_bytes (IsStored kinds.Way) b maps.ways) (beside 1 (omega arith)) held.ways;
@@ -344,11 +344,11 @@ module _ {D : Type 0} {g : Ghosts D} where
         bytes = bad.bytes;
         there = sym (renews.beside bad.id (λ less. omega (arith, mine, own, less))) ∙ bad.there;
         none = bad.none;
-        page_is = bad.page_is ∙ page_same old mid (number_of Nodes) bad.id stays;
+        page_is = bad.page_is ∙ page_same old mid (map_number Nodes) bad.id stays;
       }) fault refuses
 
   pub unread_bucket : (old mid : Buckets D g) (now : Image) (bucket : ℕ) (records : List (ℕ × List ℕ))
-      → IsBucketOf now (number_of Nodes) (bucket % now.root.buckets) records
+      → IsBucketOf now (map_number Nodes) (bucket % now.root.buckets) records
       → (result : Result (Unit {0}) StoreFault) → OnlyRead (chains_of old) (chains_of mid)
       → IfErr result (Refuses (HasOldUnread (Among records) mid now))
       → IfErr result (Refuses (HasOldUnread (IsIn now.root.buckets bucket) old now))
@@ -360,7 +360,7 @@ module _ {D : Type 0} {g : Ghosts D} where
         bytes = bad.bytes;
         there = bad.there;
         none = bad.none;
-        page_is = bad.page_is ∙ page_same old mid (number_of Nodes) bad.id stays;
+        page_is = bad.page_is ∙ page_same old mid (map_number Nodes) bad.id stays;
       }) refuses
 
   -- looks, one after another

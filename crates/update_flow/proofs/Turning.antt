@@ -30,7 +30,7 @@ use Rattle.update_flow.specs.Refusals.{MayAnswer, OrBreaks, OrFull, Refuses}
 use Rattle.update_flow.specs.Stands.{Means, StandsFor}
 use Rattle.update_flow.specs.State.{State, Step, after, imported, Holding}
 use Rattle.update_flow.specs.Turning.{CommitsTo, EndsIn, LooksIn, MayEnd, RestsIn, TurnsIn, home_in, view_in}
-use Rattle.update_flow.specs.Within.{IsSound, MayRun, Runs, faults_in, is_whole_store}
+use Rattle.update_flow.specs.Within.{IsSound, MayRun, RunsWithin, faults_in, is_whole_store}
 use Rattle.update_flow.specs.declared.fault.FlowFault.{FlowFault}
 use Rattle.update_flow.specs.declared.fault.FlowFault.TheVariants as flow
 
@@ -258,7 +258,7 @@ module _ {D : Type 0} {g : Ghosts D} where
   }
 
   -- what calls leave, whatever the store holds
-  pub runs_ended : {call : Option Step} (fault : Option FlowFault) (old new : Buckets D g) → Runs old new fault → EndsIn call fault old new
+  pub runs_ended : {call : Option Step} (fault : Option FlowFault) (old new : Buckets D g) → RunsWithin old new fault → EndsIn call fault old new
   runs_ended {call} fault old new runs = record {
     alone = run_ends call fault runs.alone;
     whole = runs.whole;

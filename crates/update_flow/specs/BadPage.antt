@@ -19,7 +19,7 @@ use Rattle.style_read.specs.Reading.{reading}
 use Rattle.style_read.specs.Style.{StyleOf}
 use Rattle.tile_cover.specs.Runs.{IsTileSet}
 use Rattle.value_bytes.specs.Forms.{IsNoValue}
-use Rattle.value_bytes.specs.StoreMap.{number_of}
+use Rattle.value_bytes.specs.StoreMap.{map_number}
 use Rattle.value_bytes.specs.declared.store_map.StoreMap.{StoreMap}
 use Rattle.due_tiles.specs.Spelling.{set_bytes}
 use Rattle.store_check.specs.BadPage.{AreLoaded, AreOwned, IsFirstRefused, IsLeftOver, IsUnused}
@@ -73,7 +73,7 @@ pub record IsBadValue (kept : Kept) (image : Image) (at : ℕ) : Type 0 where
   pub map : StoreMap
   pub key : ℕ
   pub first : IsFirstWrong style image map key
-  pub begins : at ≡ kept_first kept (chain_at image.root.buckets (number_of map) key)
+  pub begins : at ≡ kept_first kept (chain_at image.root.buckets (map_number map) key)
 
 -- each value of an imported store is right by its style
 pub record HasRightValues (image : Image) : Type 0 where

@@ -16,7 +16,7 @@ use Rattle.bucket_store.specs.Transaction.{IsOpenStore, chains_of, has_refused}
 use Rattle.bucket_store.specs.declared.buckets.Buckets.{Buckets}
 use Rattle.style_read.specs.Reading.{reading}
 use Rattle.style_read.specs.Style.{StyleOf}
-use Rattle.value_bytes.specs.StoreMap.{number_of}
+use Rattle.value_bytes.specs.StoreMap.{map_number}
 use Rattle.value_bytes.specs.declared.store_map.StoreMap.{StoreMap}
 use Rattle.store_check.specs.BadPage.{IsUnused}
 use Rattle.store_check.specs.Reading.{IsUnwritten}
@@ -26,7 +26,7 @@ use Rattle.update_flow.specs.Roots.{AreFieldsOf, is_blank, is_imported}
 use Rattle.update_flow.specs.Sound.{IsSoundImport}
 use Rattle.update_flow.specs.Stands.{IsBlank}
 use Rattle.update_flow.specs.State.{Holding}
-use Rattle.update_flow.specs.Within.{IsGoing, Runs}
+use Rattle.update_flow.specs.Within.{IsGoing, RunsWithin}
 use Rattle.update_flow.specs.declared.fault.FlowFault.{FlowFault}
 use Rattle.update_flow.specs.declared.fault.FlowFault.TheVariants as flow
 use Rattle.update_flow.specs.declared.fields.TheConstants.{STYLE_TEXT}
@@ -106,7 +106,7 @@ pub record HasOnlyRead {D : Type 0} {g : Ghosts D} (old new : Buckets D g) : Typ
 -- what a call that only reads leaves, whatever its answer
 pub record OnlyReads {T D : Type 0} {g : Ghosts D} (old new : Buckets D g) (result : Result T FlowFault) : Type 0 where
   pub only : OnOk result (HasOnlyRead old new)
-  pub runs : Runs old new (result_err result)
+  pub runs : RunsWithin old new (result_err result)
 
 -- a store may be judged under these buckets: they have refused nothing, and nothing was written
 pub record MayJudge {D : Type 0} {g : Ghosts D} (buckets : Buckets D g) : Type 0 where
@@ -124,7 +124,7 @@ pub record IsWrongAt (style : StyleOf) (kept : Kept) (image : Image) (at : ℕ) 
   pub map : StoreMap
   pub key : ℕ
   pub first : IsFirstWrong style image map key
-  pub begins : at ≡ kept_first kept (chain_at image.root.buckets (number_of map) key)
+  pub begins : at ≡ kept_first kept (chain_at image.root.buckets (map_number map) key)
 
 -- what is refused at a page is refused at the root page
 abbrev pub rooted : FlowFault → FlowFault

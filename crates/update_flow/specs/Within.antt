@@ -53,7 +53,7 @@ IsSound _ = ⊥
 -- what each call within a transaction leaves, on a store whose disk had not failed before: the store at rest was only looked at, and but
 -- for a
 -- disk fault its disk has not failed since
-pub record Runs {D : Type 0} {g : Ghosts D} (old new : Buckets D g) (fault : Option FlowFault) : Type 0 where
+pub record RunsWithin {D : Type 0} {g : Ghosts D} (old new : Buckets D g) (fault : Option FlowFault) : Type 0 where
   pub looks : OnlyLooks old new
   pub alone : MayRun fault
   pub whole : IsNoDiskFault fault → is_whole_store new
@@ -62,7 +62,7 @@ pub record Runs {D : Type 0} {g : Ghosts D} (old new : Buckets D g) (fault : Opt
 -- and where it is answered it has refused nothing
 pub record GoesOn {T D : Type 0} {g : Ghosts D} (old new : Buckets D g) (result : Result T FlowFault) : Type 0 where
   pub going : OnOk result (has_refused new ≡ false)
-  pub runs : Runs old new (result_err result)
+  pub runs : RunsWithin old new (result_err result)
 
 -- a text is these bytes from now on
 pub record StoresText {T D : Type 0} {g : Ghosts D} (n : ℕ) (bytes : List ℕ) (old new : Buckets D g)
@@ -70,7 +70,7 @@ pub record StoresText {T D : Type 0} {g : Ghosts D} (n : ℕ) (bytes : List ℕ)
   pub stored : OnOk result ((rest now : Image) → Has rest now old → Has rest (with_text n bytes now) new)
   pub going : OnOk result (has_refused new ≡ false)
   pub sound : (rest now : Image) → Has rest now old → IsSound (result_err result)
-  pub runs : Runs old new (result_err result)
+  pub runs : RunsWithin old new (result_err result)
 
 -- over this store at rest the transaction has made one that means this state
 pub record IsReady {D : Type 0} {g : Ghosts D} (state : State) (rest : Image) (buckets : Buckets D g) : Type 0 where

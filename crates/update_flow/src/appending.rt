@@ -26,7 +26,7 @@ use crate::due_text::load_due;
 use crate::fault::step_fault;
 use crate::ids::known_ids;
 use crate::maps::StoreTxn;
-use crate::settling::settle;
+use crate::settling::commit_due;
 use crate::{FlowFault, LAST_CHANGE};
 use geom_workers::Hands;
 use object_fold::Change;
@@ -88,7 +88,7 @@ pub(crate) fn append<D: Disk, R: Threads + Sync, G: Gate>(
     };
     let _runs = due.as_slice();
     known_ids(change.entries());
-    match settle(alloc, &mut maps.indexed.buckets, &due, number) {
+    match commit_due(alloc, &mut maps.indexed.buckets, &due, number) {
         Ok(()) => Ok(told),
         Err(fault) => Err(fault),
     }

@@ -18,7 +18,7 @@ ghost use Rattle.update_flow.specs.Judged.{AreEmptyBelow, IsEmptyAt, IsEmptyText
 ghost use Rattle.update_flow.specs.Due.{Tiles};
 ghost use Rattle.update_flow.specs.Roots.{is_blank, is_imported};
 ghost use Rattle.update_flow.specs.Stands.{AreDue};
-ghost use Rattle.update_flow.specs.Within.{IsGoing, Runs};
+ghost use Rattle.update_flow.specs.Within.{IsGoing, RunsWithin};
 ghost use Rattle.update_flow.specs.declared.fault.FlowFault.TheVariants.{Store};
 ghost use Rattle.update_flow.specs.declared.fault.TheConstants.{LAST_CHANGE};
 ghost use Rattle.update_flow.specs.declared.fields.TheConstants.{DUE_TEXT, STYLE_TEXT};
@@ -41,7 +41,7 @@ pub(crate) fn judge<D: Disk>(alloc: Global, buckets: &mut Buckets<'_, D>) -> Res
     requires ready { IsGoing buckets.old }
     ensures exact { (pages : List (List ℕ)) → IsOpenStore pages buckets.old → TellsToday pages
         → Judges pages (kept_of (chains_of buckets.old)) (result_err result) }
-    ensures runs { Runs buckets.old buckets.new (result_err result) }
+    ensures runs { RunsWithin buckets.old buckets.new (result_err result) }
 {
     match survey(alloc, buckets) {
         Ok(()) => judge_surveyed(alloc, buckets),
@@ -56,7 +56,7 @@ fn judge_surveyed<D: Disk>(alloc: Global, buckets: &mut Buckets<'_, D>) -> Resul
     ensures exact { (pages : List (List ℕ)) → IsOpenStore pages buckets.old → TellsToday pages
         → AreLoaded pages (kept_of (chains_of buckets.old)) → AreOwned pages (kept_of (chains_of buckets.old))
         → Judges pages (kept_of (chains_of buckets.old)) (result_err result) }
-    ensures runs { Runs buckets.old buckets.new (result_err result) }
+    ensures runs { RunsWithin buckets.old buckets.new (result_err result) }
 {
     match are_empty(buckets) {
         Ok(empty) => {
@@ -76,7 +76,7 @@ fn judge_meant<D: Disk>(
     requires may { MayJudge buckets.old }
     ensures exact { (image : Image) → Has image image buckets.old → AreEmptyBelow 8 empty image → IsOfToday image
         → JudgesImage (kept_of (chains_of buckets.old)) image (result_err result) }
-    ensures runs { Runs buckets.old buckets.new (result_err result) }
+    ensures runs { RunsWithin buckets.old buckets.new (result_err result) }
 {
     if has_buckets(buckets) {
         return judge_import(alloc, buckets, empty);
@@ -97,7 +97,7 @@ fn judge_blank<D: Disk>(buckets: &mut Buckets<'_, D>, empty: bool) -> Result<(),
     requires ready { IsGoing buckets.old }
     ensures exact { (image : Image) → Has image image buckets.old → AreEmptyBelow 8 empty image → is_blank image.root ≡ true
         → JudgesImage (kept_of (chains_of buckets.old)) image (result_err result) }
-    ensures runs { Runs buckets.old buckets.new (result_err result) }
+    ensures runs { RunsWithin buckets.old buckets.new (result_err result) }
 {
     let root = buckets.root();
     let styleless = match is_empty(buckets, STYLE_TEXT) {
@@ -139,7 +139,7 @@ fn judge_import<D: Disk>(
     requires some { 1 ≤ bucket_count (chains_of buckets.old) }
     ensures exact { (image : Image) → Has image image buckets.old → AreEmptyBelow 8 empty image → is_imported image.root ≡ true
         → JudgesImage (kept_of (chains_of buckets.old)) image (result_err result) }
-    ensures runs { Runs buckets.old buckets.new (result_err result) }
+    ensures runs { RunsWithin buckets.old buckets.new (result_err result) }
 {
     let style = match load_style(alloc, buckets) {
         Ok(style) => style,

@@ -8,7 +8,7 @@ ghost use Rattle.row_store.specs.Tables.{HoldsTables};
 ghost use Rattle.update_flow.specs.Sound.{IsSoundImport};
 ghost use Rattle.update_flow.specs.Stands.{IsImported};
 ghost use Rattle.update_flow.specs.State.{Holding};
-ghost use Rattle.update_flow.specs.Within.{IsGoing, IsSound, Runs, wanted_of};
+ghost use Rattle.update_flow.specs.Within.{IsGoing, IsSound, RunsWithin, wanted_of};
 
 use crate::FlowFault;
 use crate::fault::store_fault;
@@ -39,7 +39,7 @@ pub(crate) fn load_rows<D: Disk>(
         → found ≡ wanted_of wanted all) }
     ensures followed { (rest now : Image) (all : TableMap) → Has rest now buckets.old → HoldsTables style.now.tables now.maps all
         → 1 ≤ now.root.buckets → IsSound (result_err result) }
-    ensures runs { Runs buckets.old buckets.new (result_err result) }
+    ensures runs { RunsWithin buckets.old buckets.new (result_err result) }
 {
     if buckets.root().buckets == 0 {
         return Err(FlowFault::Store(StoreFault::BadStore { page: 1 }));
@@ -64,7 +64,7 @@ pub(crate) fn load_sorted<D: Disk>(
         → IsSound (result_err result) }
     ensures trusted { (rest now : Image) (held : Holding) → Has rest now buckets.old → IsSoundImport held now → held.style ≡ style.now
         → IsSound (result_err result) }
-    ensures runs { Runs buckets.old buckets.new (result_err result) }
+    ensures runs { RunsWithin buckets.old buckets.new (result_err result) }
 {
     if buckets.root().buckets == 0 {
         return Err(FlowFault::Store(StoreFault::BadStore { page: 1 }));

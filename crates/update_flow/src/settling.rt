@@ -3,7 +3,7 @@ ghost use Rattle.std.specs.Prelude.{◌≡◌, OnOk};
 ghost use Rattle.std.specs.Result.{result_err};
 ghost use Rattle.bucket_store.specs.Image.{Has, Image};
 ghost use Rattle.update_flow.specs.Reads.{ReadsToCommit};
-ghost use Rattle.update_flow.specs.Settling.{settled};
+ghost use Rattle.update_flow.specs.Settling.{with_due};
 ghost use Rattle.update_flow.specs.Turning.{CommitsWith};
 ghost use Rattle.update_flow.specs.Within.{IsGoing};
 ghost use Rattle.update_flow.specs.declared.fields.TheConstants.{DUE_TEXT};
@@ -18,14 +18,14 @@ use std::alloc::Global;
 use tile_cover::TileRuns;
 
 /// Commits what the transaction has changed, with these due tiles and this number of changes.
-pub(crate) fn settle<D: Disk>(
+pub(crate) fn commit_due<D: Disk>(
     alloc: Global,
     buckets: &mut Buckets<'_, D>,
     due: &TileRuns,
     number: u64,
 ) -> Result<(), FlowFault>
     requires ready { IsGoing buckets.old }
-    ensures commits { CommitsWith (settled number due.now) (result_err result) buckets.old buckets.new }
+    ensures commits { CommitsWith (with_due number due.now) (result_err result) buckets.old buckets.new }
     ensures reads { OnOk result ((rest now : Image) → Has rest now buckets.old → ReadsToCommit (λ n. n ≡ DUE_TEXT) buckets.old buckets.new) }
 {
     match store_due(alloc, buckets, due) {

@@ -11,7 +11,7 @@ ghost use Rattle.bucket_store.specs.Transaction.{IsOpenStore, chains_of};
 ghost use Rattle.update_flow.specs.Judged.{HasReadText, IsStyleless, LoadsStyle};
 ghost use Rattle.update_flow.specs.OpeningReads.{ReadsStyle};
 ghost use Rattle.update_flow.specs.Refusals.{MayFind};
-ghost use Rattle.update_flow.specs.Within.{IsGoing, IsSound, Runs, StoresText};
+ghost use Rattle.update_flow.specs.Within.{IsGoing, IsSound, RunsWithin, StoresText};
 ghost use Rattle.update_flow.specs.declared.fault.FlowFault.TheVariants.{Store};
 ghost use Rattle.update_flow.specs.declared.fields.TheConstants.{STYLE_TEXT};
 
@@ -32,7 +32,7 @@ pub fn load_style<D: Disk>(alloc: Global, buckets: &mut Buckets<'_, D>) -> Resul
     ensures alone { IfErr result MayFind }
     ensures reads { OnOk result ((rest now : Image) → Has rest now buckets.old
         → ReadsStyle (disk_of (chains_of buckets.old)) (disk_of (chains_of buckets.new))) }
-    ensures runs { Runs buckets.old buckets.new (result_err result) }
+    ensures runs { RunsWithin buckets.old buckets.new (result_err result) }
 
     // Which page is blamed where it is refused, of any store.
     ensures answers { (pages : List (List ℕ)) → IsOpenStore pages buckets.old → written_of (chains_of buckets.old) ≡ finite.empty
@@ -56,7 +56,7 @@ pub(crate) fn load_style_bytes<D: Disk>(buckets: &mut Buckets<'_, D>) -> Result<
     requires ready { IsGoing buckets.old }
     ensures bytes { IfOk result (λ bytes. (rest now : Image) → Has rest now buckets.old → bytes ≡ now.texts STYLE_TEXT) }
     ensures sound { (rest now : Image) → Has rest now buckets.old → IsSound (result_err result) }
-    ensures runs { Runs buckets.old buckets.new (result_err result) }
+    ensures runs { RunsWithin buckets.old buckets.new (result_err result) }
 {
     match buckets.load(STYLE_TEXT) {
         Ok(bytes) => Ok(bytes),

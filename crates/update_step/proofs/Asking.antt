@@ -17,7 +17,7 @@ use Rattle.osm_base.specs.map.Objects.{place_in}
 use Rattle.osm_base.specs.values.Key.{KeyOf, node_key}
 use Rattle.osm_base.specs.values.Place.{PlaceOf}
 use Rattle.osm_base.proofs.KeyLaws.{key_cmp_total, key_cmp-IsAntisymmetric}
-use Rattle.update_step.specs.Gather.{AlongWay, AreAsked, AroundNode, Ask, AtNode, Gathered, Gathers, Grows, IsRight, OfKey, Same, joined}
+use Rattle.update_step.specs.Gather.{AlongWay, AreAsked, AroundNode, Ask, AtNode, Gathered, Gathers, Grows, IsRight, OfKey, Same, flattened}
 use Rattle.update_step.specs.Gather.{known_in, said_by, was_asked, with_along, with_answer, with_around, with_form, with_place}
 use Rattle.update_step.specs.Named.{AreKnown, IsKnown, named_in}
 
@@ -65,7 +65,7 @@ module _ (to : Known) (g : Gathered) where
   module _ (id : ℕ) (place : Option PlaceOf) (is : place ≡ to.place id) where
     place-right : IsRight g to → (ask : Ask) → was_asked (with_place g id place) ask ≡ true → Same (known_in (with_place g id place)) to ask
     place-right right (AtNode other) asked =
-        put_right nat_cmp_total nat_cmp-IsAntisymmetric g.places id place joined to.place is other (right (AtNode other)) asked
+        put_right nat_cmp_total nat_cmp-IsAntisymmetric g.places id place flattened to.place is other (right (AtNode other)) asked
     place-right right (OfKey own) asked = right (OfKey own) asked
     place-right right (AlongWay other) asked = right (AlongWay other) asked
     place-right right (AroundNode other) asked = right (AroundNode other) asked
@@ -87,7 +87,7 @@ module _ (to : Known) (g : Gathered) where
   module _ (key : KeyOf) (form : Option Object) (is : form ≡ to.object key) where
     form-right : IsRight g to → (ask : Ask) → was_asked (with_form g key form) ask ≡ true → Same (known_in (with_form g key form)) to ask
     form-right right (AtNode other) asked = right (AtNode other) asked
-    form-right right (OfKey own) asked = put_right key_cmp_total key_cmp-IsAntisymmetric g.forms key form joined to.object is own
+    form-right right (OfKey own) asked = put_right key_cmp_total key_cmp-IsAntisymmetric g.forms key form flattened to.object is own
         (right (OfKey own)) asked
     form-right right (AlongWay other) asked = right (AlongWay other) asked
     form-right right (AroundNode other) asked = right (AroundNode other) asked
@@ -200,12 +200,12 @@ pub said-right : (to : Known) (change : List Entry) → AreKnown to change → I
 said-right to change known = right
   where
     place-said : (id : ℕ) (said : Option (Option Object)) → IfSome said (IsKnown to (node_key id))
-        → is_some (option_map place_in said) ≡ true → joined (option_map place_in said) ≡ to.place id
+        → is_some (option_map place_in said) ≡ true → flattened (option_map place_in said) ≡ to.place id
     place-said id None is said = absurd (false≢true said)
     place-said id (Some object) is said = sym (is.placed refl)
 
     form-said : (own : KeyOf) (said : Option (Option Object)) → IfSome said (IsKnown to own) → is_some said ≡ true
-        → joined said ≡ to.object own
+        → flattened said ≡ to.object own
     form-said own None is said = absurd (false≢true said)
     form-said own (Some object) is said = sym is.form
 

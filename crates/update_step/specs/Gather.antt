@@ -22,7 +22,7 @@ use Rattle.osm_base.specs.values.Place.{PlaceOf}
 use Rattle.style_read.specs.Style.{StyleOf}
 use Rattle.row_rules.specs.Wanted.{may_have_rows}
 use Rattle.update_step.specs.Named.{named_in}
-use Rattle.update_step.specs.declared.answers.Answers.{Answers}
+use Rattle.update_step.specs.declared.answers.StoreAnswers.{StoreAnswers}
 pub use Rattle.update_step.specs.declared.asks.Ask.{Ask}
 pub use Rattle.update_step.specs.declared.asks.Ask.TheVariants.{AlongWay, AroundNode, AtNode, OfKey}
 
@@ -43,7 +43,7 @@ said_by change = record {
 }
 
 -- what the change says of a key goes before what is kept in trees
-abbrev pub gathered_in : Answers → Gathered
+abbrev pub gathered_in : StoreAnswers → Gathered
 gathered_in answers = record {
   places = λ id. option_or ((said_by answers.change.now).places id) (finite.get (finite.from_entries {R = nat_cmp} answers.places.entries) id);
   forms = λ own. option_or (named_in answers.change.now own) (finite.get (finite.from_entries {R = key_cmp} answers.forms.entries) own);
@@ -51,15 +51,15 @@ gathered_in answers = record {
   around_nodes = finite.get (finite.from_entries {R = nat_cmp} answers.around_nodes.entries);
 }
 
-abbrev pub joined : {X : Type 0} → Option (Option X) → Option X
-joined (Some found) = found
-joined None = None
+abbrev pub flattened : {X : Type 0} → Option (Option X) → Option X
+flattened (Some found) = found
+flattened None = None
 
 -- what is known by these answers
 abbrev pub known_in : Gathered → Known
 known_in gathered = record {
-  place = λ id. joined (gathered.places id);
-  object = λ own. joined (gathered.forms own);
+  place = λ id. flattened (gathered.places id);
+  object = λ own. flattened (gathered.forms own);
   relations_of_way = λ id. unwrap_or (gathered.along_ways id) [];
   relations_of_node = λ id. unwrap_or (gathered.around_nodes id) [];
 }

@@ -1,7 +1,7 @@
 //! What a change says and a store answered, for the rows that are built of it.
 ghost use Rattle.std.specs.Prelude.{◌≡◌, is_some, false, OnOk};
 ghost use Rattle.std.specs.Option.{option_copied};
-ghost use Rattle.update_step.specs.Gather.{AtNode, OfKey, gathered_in, joined, known_in, said_by, was_asked, with_along, with_around, with_form, with_place};
+ghost use Rattle.update_step.specs.Gather.{AtNode, OfKey, gathered_in, flattened, known_in, said_by, was_asked, with_along, with_around, with_form, with_place};
 ghost use Rattle.update_step.specs.Named.{key_named, named_in};
 
 use crate::asks::Ask;
@@ -16,7 +16,7 @@ use std::collections::BTreeMap;
 /// in it, and the answers of a store to what else was asked are kept. `nodes` is how many of its entries are of nodes: where a
 /// search begins.
 #[derive(Drop)]
-pub(crate) struct Answers<'c> {
+pub(crate) struct StoreAnswers<'c> {
     change: &'c Change,
     nodes: usize,
     places: BTreeMap<u64, Option<Place>>,
@@ -25,7 +25,7 @@ pub(crate) struct Answers<'c> {
     around_nodes: BTreeMap<u64, Listers>,
 }
 
-impl<'c> Answers<'c> {
+impl<'c> StoreAnswers<'c> {
     /// Those that a change has.
     pub(crate) fn new(alloc: Global, change: &'c Change) -> Self
         ensures said { gathered_in result ≡ said_by change.now }
@@ -82,7 +82,7 @@ impl<'c> Answers<'c> {
 
     /// The object of a key. `None`: it was not asked.
     pub(crate) fn form(&self, key: Key) -> Option<&Option<Object>>
-        ensures form { joined (option_copied result) ≡ (known_in (gathered_in self.now)).object key }
+        ensures form { flattened (option_copied result) ≡ (known_in (gathered_in self.now)).object key }
     {
         match self.named(key.kind, key.id) {
             Some(form) => Some(form),
@@ -125,7 +125,7 @@ impl<'c> Answers<'c> {
     }
 }
 
-impl Lookup for Answers<'_> {
+impl Lookup for StoreAnswers<'_> {
     ghost known = { λ answers. known_in (gathered_in answers) };
 
     fn place_of(&self, id: u64) -> Option<Place> {

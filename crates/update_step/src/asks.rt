@@ -6,7 +6,7 @@ ghost use Rattle.osm_base.specs.values.Key.{IsId};
 ghost use Rattle.update_step.specs.Gather.{AtNode, OfKey, gathered_in, known_in, place_asks, relation_asks};
 ghost use Rattle.update_step.specs.Rounds.{asks_behind, lister_asked, member_asked, parts_asked, parts_of, ways_asked};
 
-use crate::answers::Answers;
+use crate::answers::StoreAnswers;
 use osm_base::{Key, Kind, Lookup, Member, Object, OutOfMemory};
 use row_map::may_have_rows;
 use std::alloc::Global;
@@ -116,7 +116,7 @@ fn add_parts_of(
     style: &Style,
     reaches: bool,
     key: Key,
-    answers: &Answers<'_>,
+    answers: &StoreAnswers<'_>,
 ) -> Result<(), OutOfMemory>
     ensures added { OnOk result (asks.new.items ≡ asks.old.items ++ parts_of style.now reaches (known_in (gathered_in answers.now)) key) }
 {
@@ -138,7 +138,7 @@ fn add_relations(asks: &mut Vec<Ask>, ids: &[u64]) -> Result<(), OutOfMemory>
 }
 
 /// Adds what an answer leads to: of a way its nodes, of a list of relations these.
-fn add_behind(asks: &mut Vec<Ask>, ask: Ask, answers: &Answers<'_>) -> Result<(), OutOfMemory>
+fn add_behind(asks: &mut Vec<Ask>, ask: Ask, answers: &StoreAnswers<'_>) -> Result<(), OutOfMemory>
     ensures added { OnOk result (asks.new.items ≡ asks.old.items ++ asks_behind (known_in (gathered_in answers.now)) ask) }
 {
     match ask {
@@ -169,7 +169,7 @@ pub(crate) fn of_parts(
     style: &Style,
     reaches: bool,
     keys: &[Key],
-    answers: &Answers<'_>,
+    answers: &StoreAnswers<'_>,
 ) -> Result<Vec<Ask>, OutOfMemory>
     ensures asks { IfOk result (λ asks. asks.items ≡ flat_map (parts_of style.now reaches (known_in (gathered_in answers.now))) keys.now) }
 {
@@ -184,7 +184,7 @@ pub(crate) fn of_parts(
 pub(crate) fn behind(
     alloc: Global,
     asks: &[Ask],
-    answers: &Answers<'_>,
+    answers: &StoreAnswers<'_>,
 ) -> Result<Vec<Ask>, OutOfMemory>
     ensures asks { IfOk result (λ more. more.items ≡ flat_map (asks_behind (known_in (gathered_in answers.now))) asks.now) }
 {

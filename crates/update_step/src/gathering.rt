@@ -9,7 +9,7 @@ ghost use Rattle.update_step.specs.Named.{AreKnown};
 ghost use Rattle.update_step.specs.Touch.{MayAsk, MayAskAll};
 
 use crate::StepFault;
-use crate::answers::Answers;
+use crate::answers::StoreAnswers;
 use crate::asks::{Ask, behind, of_keys, of_parts};
 use crate::listers::Listers;
 use object_fold::Change;
@@ -21,7 +21,7 @@ use style_read::Style;
 /// Asks a store, unless the answer is there.
 fn ask_one<S: MapStore>(
     store: &mut S,
-    answers: &mut Answers<'_>,
+    answers: &mut StoreAnswers<'_>,
     ask: Ask,
 ) -> Result<(), StepFault<S::Refusal>>
     requires spent { S.spent store.old ≡ false }
@@ -60,7 +60,7 @@ fn ask_one<S: MapStore>(
 /// Asks a store all of these.
 fn ask_all<S: MapStore>(
     store: &mut S,
-    answers: &mut Answers<'_>,
+    answers: &mut StoreAnswers<'_>,
     asks: &[Ask],
 ) -> Result<(), StepFault<S::Refusal>>
     requires spent { S.spent store.old ≡ false }
@@ -83,7 +83,7 @@ pub(crate) fn gathered<'c, S: MapStore>(
     style: &Style,
     reaches: bool,
     keys: &[Key],
-) -> Result<Answers<'c>, StepFault<S::Refusal>>
+) -> Result<StoreAnswers<'c>, StepFault<S::Refusal>>
     requires spent { S.spent store.old ≡ false }
     ensures right { IfOk result (λ answers. (under : S.Under) (maps : Maps) → S.holds store.old under maps → AreKnown (known_on maps) change.now
         → IsRight (gathered_in answers) (known_on maps)) }
@@ -93,7 +93,7 @@ pub(crate) fn gathered<'c, S: MapStore>(
         → MayAskAll may (all_needs style.now reaches (known_on maps) keys.now) → S.within may store.old → S.within may store.new }
     ensures looks { Looks S.MapStore.own S.Back store.old store.new result }
 {
-    let mut answers = Answers::new(alloc, change);
+    let mut answers = StoreAnswers::new(alloc, change);
     let objects = of_keys(alloc, keys)?;
     let objects = objects.as_slice();
     ask_all(store, &mut answers, objects)?;

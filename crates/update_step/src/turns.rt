@@ -144,7 +144,7 @@ fn turn_key(
 }
 
 /// Puts the tiles of a batch to the others, where the batch is large.
-fn settle(alloc: Global, set: &mut TileRuns, batch: &mut TileRuns) -> Result<(), OutOfMemory>
+fn unite_batch(alloc: Global, set: &mut TileRuns, batch: &mut TileRuns) -> Result<(), OutOfMemory>
     ensures same { OnOk result ((zoom x y : ℕ) → (has set.new zoom x y || has batch.new zoom x y) ≡ (has set.old zoom x y || has batch.old zoom x y)) }
 {
     if batch.as_slice().len() < BATCH {
@@ -189,7 +189,7 @@ pub(crate) fn turns_of(
             new,
         )?;
         turned.push(here)?;
-        settle(alloc, due, &mut batch)?;
+        unite_batch(alloc, due, &mut batch)?;
     }
     union(alloc, due, &batch)?;
     Ok(Turns { changes, turned })

@@ -33,28 +33,28 @@ use Rattle.run_promise.specs.CommandOf.{CommandOf, points_of, lines_of, init_of,
 use Rattle.run_promise.specs.CommandOf.{FilesFit, feed_of, follow_of, serve_of, replay_of, migrate_of, check_of, demo_of}
 
 -- a command of the program, as contracts see it
-abbrev pub seen : Command → CommandOf
-seen (Points key files) = points_of key.now files
-seen (Lines key files) = lines_of key.now files
-seen (Init store) = init_of store.now
-seen (Import store files buckets workers) = import_of store.now files buckets workers
-seen (Append store files ahead workers) = append_of store.now files ahead workers
-seen (Feed store files full workers) = feed_of store.now files full workers
-seen (Follow store files) = follow_of store.now files
-seen (Export store table) = export_of store.now table.now
-seen (Tiles store least clear) = tiles_of store.now least clear
-seen (Query store files) = query_of store.now files
-seen (Serve store files workers readers) = serve_of store.now files workers readers
-seen (Replay store files workers) = replay_of store.now files workers
-seen (Migrate store) = migrate_of store.now
-seen (Check store) = check_of store.now
-seen (Demo squares store workers) = demo_of squares.count store.now workers
+abbrev pub command_view : Command → CommandOf
+command_view (Points key files) = points_of key.now files
+command_view (Lines key files) = lines_of key.now files
+command_view (Init store) = init_of store.now
+command_view (Import store files buckets workers) = import_of store.now files buckets workers
+command_view (Append store files ahead workers) = append_of store.now files ahead workers
+command_view (Feed store files full workers) = feed_of store.now files full workers
+command_view (Follow store files) = follow_of store.now files
+command_view (Export store table) = export_of store.now table.now
+command_view (Tiles store least clear) = tiles_of store.now least clear
+command_view (Query store files) = query_of store.now files
+command_view (Serve store files workers readers) = serve_of store.now files workers readers
+command_view (Replay store files workers) = replay_of store.now files workers
+command_view (Migrate store) = migrate_of store.now
+command_view (Check store) = check_of store.now
+command_view (Demo squares store workers) = demo_of squares.count store.now workers
 
 -- words are read as a form says, and the files of a command that they ask for are as they have to be
 pub record IsReadAs (form : (options words : List (List ℕ)) → (place : ℕ) → Option CommandOf) (words : Words)
     (result : Option Command) : Type 0 where
-  pub read : option_map seen result ≡ form (map string_bytes words.options.now) (map string_bytes words.form.now) words.place
-  pub fits : IfSome result (λ command. FilesFit (seen command))
+  pub read : option_map command_view result ≡ form (map string_bytes words.options.now) (map string_bytes words.form.now) words.place
+  pub fits : IfSome result (λ command. FilesFit (command_view command))
 
 -- what remains from the first on that fails a test
 abbrev pub behind : {A : Type 0} → (A → Bool) → List A → List A

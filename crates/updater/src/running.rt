@@ -3,7 +3,7 @@ ghost use Rattle.std.specs.Prelude.{◌≡◌, Some, None, map};
 ghost use Rattle.std.specs.Result.{result_err};
 ghost use Rattle.std.specs.String.{string_bytes};
 ghost use Rattle.run_promise.specs.CommandOf.{CommandOf, FilesFit};
-ghost use Rattle.updater.specs.Command.{command, seen};
+ghost use Rattle.updater.specs.Command.{command, command_view};
 ghost use Rattle.run_promise.specs.Faults.{status_of};
 ghost use Rattle.run_promise.specs.Runs.{IsWrongUse, Runs};
 ghost use Rattle.run_promise.specs.Safety.{IsSafe};
@@ -77,11 +77,11 @@ fn run_command<R: Threads + Wait + Sync, I: Inputs, D: Disk, S: Sink, G: Gate>(
     out: &mut S,
     gate: &G,
 ) -> Result<(), Fault>
-    requires fits { FilesFit (seen command) }
-    ensures runs { Runs (seen command.entry) (λ asked. I.reads inputs.old asked inputs.new)
+    requires fits { FilesFit (command_view command) }
+    ensures runs { Runs (command_view command.entry) (λ asked. I.reads inputs.old asked inputs.new)
         (world (I.view inputs.old) (D.view disk.old) (S.view out.old))
         (world (I.view inputs.new) (D.view disk.new) (S.view out.new)) (result_err result) }
-    ensures safe { IsSafe (seen command.entry)
+    ensures safe { IsSafe (command_view command.entry)
         (world (I.view inputs.old) (D.view disk.old) (S.view out.old))
         (world (I.view inputs.new) (D.view disk.new) (S.view out.new)) (result_err result) }
 {

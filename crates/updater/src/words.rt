@@ -164,8 +164,8 @@ pub fn only_looks(words: &[String]) -> bool
 /// KEY may look like an option. The words that remain fill the command's form.
 #[tactic(auto, unfolding(crate::specs::Command::command))]
 pub fn command_of(words: &[String]) -> Option<Command<'_>>
-    ensures command { option_map spec.seen result ≡ spec.command (map string_bytes words.now) }
-    ensures fits { IfSome result (λ command. promise.FilesFit (spec.seen command)) }
+    ensures command { option_map spec.command_view result ≡ spec.command (map string_bytes words.now) }
+    ensures fits { IfSome result (λ command. promise.FilesFit (spec.command_view command)) }
 {
     let (name, later) = words.split_first()?;
     if words.len() > MAX_WORDS {

@@ -6,12 +6,12 @@ use Rattle.value_bytes.specs.declared.store_map.StoreMap.TheVariants.{Nodes, Way
 use Rattle.value_bytes.specs.declared.store_map.StoreMap.TheVariants.{RelationsOfWays, NodeRows, OtherRows}
 
 -- the number of a map
-abbrev pub number_of : StoreMap → ℕ
-number_of Nodes = 0
-number_of Ways = 1
-number_of Relations = 2
-number_of WaysOfBlocks = 3
-number_of RelationsOfNodes = 4
-number_of RelationsOfWays = 5
-number_of NodeRows = 6
-number_of OtherRows = 7
+abbrev pub map_number : StoreMap → ℕ
+map_number Nodes = 0
+map_number Ways = 1
+map_number Relations = 2
+map_number WaysOfBlocks = 3
+map_number RelationsOfNodes = 4
+map_number RelationsOfWays = 5
+map_number NodeRows = 6
+map_number OtherRows = 7

@@ -25,7 +25,7 @@ impl Spelled for Place {
     }
 
     fn push_to(&self, out: &mut Vec<u8>) -> Result<(), OutOfMemory> {
-        push_number(out, joined(self.lon, self.lat))?;
+        push_number(out, place_number(self.lon, self.lat))?;
         Ok(())
     }
 }
@@ -68,7 +68,7 @@ fn place_at(lon: i32, lat: i32) -> Option<Place>
 }
 
 /// One number of eight bytes for both of a place, which is written and read at once.
-fn joined(lon: i32, lat: i32) -> u64
+fn place_number(lon: i32, lat: i32) -> u64
     ensures number { result ≡ cast_unsigned w32 lon + cast_unsigned w32 lat * 2 ^ 32 }
 {
     lon.cast_unsigned() as u64 + lat.cast_unsigned() as u64 * FOURS

@@ -1,6 +1,6 @@
 //! The maps of a store.
 ghost use Rattle.std.specs.Prelude.{◌≡◌, ◌↔◌, ◌<◌, ◌≤◌, IfSome, IsNone};
-ghost use Rattle.value_bytes.specs.StoreMap.{number_of};
+ghost use Rattle.value_bytes.specs.StoreMap.{map_number};
 
 /// A map of a store: from numbers to values in bytes.
 #[derive(Clone, Copy, Debug, PartialEq, Eq)]
@@ -26,7 +26,7 @@ pub enum StoreMap {
 impl StoreMap {
     /// The map with this number. For callers outside: the program does not use it.
     pub fn with_number(number: u64) -> Option<StoreMap>
-        ensures map { IfSome result (λ map. number_of map ≡ number) }
+        ensures map { IfSome result (λ map. map_number map ≡ number) }
         ensures none { IsNone result ↔ 8 ≤ number }
     {
         match number {
@@ -44,7 +44,7 @@ impl StoreMap {
 
     /// The number of the map in the format of a store.
     pub fn number(self) -> u8
-        ensures number { result ≡ number_of self }
+        ensures number { result ≡ map_number self }
         ensures below { result < 8 }
     {
         match self {

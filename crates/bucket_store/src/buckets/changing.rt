@@ -18,13 +18,13 @@ impl<'d, D: Disk> Buckets<'d, D> {
     ghost use Rattle.bucket_store.specs.Calls.{ChangesMemory, SetsFields, SetsText, SetsValue, TakesValue, Touches, TouchesText};
     ghost use Rattle.bucket_store.specs.Image.{Has, Image, with_buckets, with_root, with_value};
     ghost use Rattle.bucket_store.specs.Transaction.{Content, IsOpenStore, IsReady, IsThere, bucket_at, chains_of, has_refused};
-    ghost use Rattle.value_bytes.specs.StoreMap.{number_of};
+    ghost use Rattle.value_bytes.specs.StoreMap.{map_number};
 
     /// Sets the value of a key in a map.
     pub fn put(&mut self, map: StoreMap, key: u64, value: &[u8]) -> Result<(), StoreFault>
         requires ready { IsReady self.old }
-        ensures value { SetsValue (number_of map) key value.now self.old self.new result }
-        ensures touches { Touches (number_of map) key self.old self.new result }
+        ensures value { SetsValue (map_number map) key value.now self.old self.new result }
+        ensures touches { Touches (map_number map) key self.old self.new result }
     {
         let chain = self.chain_of(map, key);
         match self.cache.put(chain, key, value) {
@@ -44,8 +44,8 @@ impl<'d, D: Disk> Buckets<'d, D> {
     // Sets the value of a key, and reads its bucket first where that is not there.
     fn bring_and_set(&mut self, map: StoreMap, key: u64, value: &[u8]) -> Result<(), StoreFault>
         requires ready { IsReady self.old }
-        ensures value { SetsValue (number_of map) key value.now self.old self.new result }
-        ensures touches { Touches (number_of map) key self.old self.new result }
+        ensures value { SetsValue (map_number map) key value.now self.old self.new result }
+        ensures touches { Touches (map_number map) key self.old self.new result }
     {
         if let Err(fault) = self.bring(map, key) {
             return Err(fault);
@@ -58,14 +58,14 @@ impl<'d, D: Disk> Buckets<'d, D> {
 
     // Sets the value of a key whose bucket is there.
     fn set(&mut self, map: StoreMap, key: u64, value: &[u8]) -> Result<(), OutOfMemory>
-        requires there { IsThere self.old (number_of map) key }
+        requires there { IsThere self.old (map_number map) key }
         requires going { has_refused self.old ≡ false }
         ensures put { OnOk result ((pages : List (List ℕ)) → IsOpenStore pages self.old → (values : BucketMap)
-            → Content pages self.old (bucket_at self.old (number_of map) key) values
-            → Content pages self.new (bucket_at self.old (number_of map) key) (finite.insert values key value.now)) }
+            → Content pages self.old (bucket_at self.old (map_number map) key) values
+            → Content pages self.new (bucket_at self.old (map_number map) key) (finite.insert values key value.now)) }
         ensures others { OnOk result ((pages : List (List ℕ)) → IsOpenStore pages self.old → (other : ℕ) (values : BucketMap)
-            → other ≢ bucket_at self.old (number_of map) key → Content pages self.old other values → Content pages self.new other values) }
-        ensures has { OnOk result ((rest now : Image) → Has rest now self.old → Has rest (with_value (number_of map) key (Some value.now) now) self.new) }
+            → other ≢ bucket_at self.old (map_number map) key → Content pages self.old other values → Content pages self.new other values) }
+        ensures has { OnOk result ((rest now : Image) → Has rest now self.old → Has rest (with_value (map_number map) key (Some value.now) now) self.new) }
         ensures memory { ChangesMemory self.old self.new result }
     {
         let n = self.chain_of(map, key);
@@ -81,8 +81,8 @@ impl<'d, D: Disk> Buckets<'d, D> {
     /// Takes a key out of a map, and answers whether it was there.
     pub fn remove(&mut self, map: StoreMap, key: u64) -> Result<bool, StoreFault>
         requires ready { IsReady self.old }
-        ensures value { TakesValue (number_of map) key self.old self.new result }
-        ensures touches { Touches (number_of map) key self.old self.new result }
+        ensures value { TakesValue (map_number map) key self.old self.new result }
+        ensures touches { Touches (map_number map) key self.old self.new result }
     {
         if let Err(fault) = self.bring(map, key) {
             return Err(fault);
@@ -95,15 +95,15 @@ impl<'d, D: Disk> Buckets<'d, D> {
 
     // Takes out a key whose bucket is there.
     fn unset(&mut self, map: StoreMap, key: u64) -> Result<bool, OutOfMemory>
-        requires there { IsThere self.old (number_of map) key }
+        requires there { IsThere self.old (map_number map) key }
         requires going { has_refused self.old ≡ false }
         ensures taken { IfOk result (λ was. (pages : List (List ℕ)) → IsOpenStore pages self.old → (values : BucketMap)
-            → Content pages self.old (bucket_at self.old (number_of map) key) values → (was ≡ finite.contains_key values key)
-            × Content pages self.new (bucket_at self.old (number_of map) key) (finite.remove values key)) }
+            → Content pages self.old (bucket_at self.old (map_number map) key) values → (was ≡ finite.contains_key values key)
+            × Content pages self.new (bucket_at self.old (map_number map) key) (finite.remove values key)) }
         ensures others { OnOk result ((pages : List (List ℕ)) → IsOpenStore pages self.old → (other : ℕ) (values : BucketMap)
-            → other ≢ bucket_at self.old (number_of map) key → Content pages self.old other values → Content pages self.new other values) }
+            → other ≢ bucket_at self.old (map_number map) key → Content pages self.old other values → Content pages self.new other values) }
         ensures has { IfOk result (λ was. (rest now : Image) → Has rest now self.old
-            → (was ≡ finite.contains_key (now.maps (number_of map)) key) × Has rest (with_value (number_of map) key None now) self.new) }
+            → (was ≡ finite.contains_key (now.maps (map_number map)) key) × Has rest (with_value (map_number map) key None now) self.new) }
         ensures memory { ChangesMemory self.old self.new result }
     {
         let n = self.chain_of(map, key);

@@ -17,13 +17,13 @@ use value_bytes::StoreMap;
 impl<'d, D: Disk> Buckets<'d, D> {
     ghost use Rattle.bucket_store.specs.Calls.{BringsOnly, GetsMap, TouchesMap};
     ghost use Rattle.bucket_store.specs.Transaction.{Content, IsOpenStore, IsReady, IsReadyAt, cached_of, chains_of};
-    ghost use Rattle.value_bytes.specs.StoreMap.{number_of};
+    ghost use Rattle.value_bytes.specs.StoreMap.{map_number};
 
     /// All of a map. Its buckets are read in their order, each that was not read yet.
     pub fn whole(&mut self, map: StoreMap) -> Result<WholeMap, StoreFault>
         requires ready { IsReady self.old }
-        ensures whole { GetsMap (number_of map) self.old self.new result }
-        ensures touches { TouchesMap (number_of map) self.old self.new result }
+        ensures whole { GetsMap (map_number map) self.old self.new result }
+        ensures touches { TouchesMap (map_number map) self.old self.new result }
     {
         let count = self.chains.root().buckets;
         let mut whole = WholeMap::new(self.alloc);

@@ -18,13 +18,13 @@ impl<'d, D: Disk> Buckets<'d, D> {
     ghost use Rattle.bucket_store.specs.Calls.{BringsOnly, BringsThere, GetsBytes, GetsRecords, GetsText, Touches, TouchesChain};
     ghost use Rattle.bucket_store.specs.Image.{Has, Image, IsBucketOf};
     ghost use Rattle.bucket_store.specs.Transaction.{Content, IsReady, IsReadyAt, IsThere, bucket_at, cached_of, chains_of, has_refused};
-    ghost use Rattle.value_bytes.specs.StoreMap.{number_of};
+    ghost use Rattle.value_bytes.specs.StoreMap.{map_number};
 
     /// Reads the bucket of a key, where the transaction has not done so: then its values can be looked at.
     pub fn bring(&mut self, map: StoreMap, key: u64) -> Result<(), StoreFault>
         requires ready { IsReady self.old }
-        ensures brings { BringsThere (number_of map) key self.old self.new result }
-        ensures touches { Touches (number_of map) key self.old self.new result }
+        ensures brings { BringsThere (map_number map) key self.old self.new result }
+        ensures touches { Touches (map_number map) key self.old self.new result }
     {
         let n = self.chain_of(map, key);
         self.bring_chain(n)
@@ -32,11 +32,11 @@ impl<'d, D: Disk> Buckets<'d, D> {
 
     /// The value of a key whose bucket is there.
     pub fn value(&self, map: StoreMap, key: u64) -> Option<&[u8]>
-        requires there { IsThere self.now (number_of map) key }
-        ensures value { (pages : List (List ℕ)) (values : BucketMap) → Content pages self.now (bucket_at self.now (number_of map) key) values
+        requires there { IsThere self.now (map_number map) key }
+        ensures value { (pages : List (List ℕ)) (values : BucketMap) → Content pages self.now (bucket_at self.now (map_number map) key) values
             → MatchOption result (finite.get values key ≡ None) (λ value. finite.get values key ≡ Some value.now) }
         ensures found { (rest now : Image) → Has rest now self.now
-            → MatchOption result (finite.get (now.maps (number_of map)) key ≡ None) (λ value. finite.get (now.maps (number_of map)) key ≡ Some value.now) }
+            → MatchOption result (finite.get (now.maps (map_number map)) key ≡ None) (λ value. finite.get (now.maps (map_number map)) key ≡ Some value.now) }
     {
         self.cache.value(self.chain_of(map, key), key)
     }
@@ -45,11 +45,11 @@ impl<'d, D: Disk> Buckets<'d, D> {
     /// Reads nothing.
     pub fn is_bare(&self, map: StoreMap, key: u64) -> bool
         requires ready { IsReady self.now }
-        ensures exact { IsTrue result ↔ ((first_of (chains_of self.now) (bucket_at self.now (number_of map) key) ≡ 0)
-            × (finite.get (cached_of self.now) (bucket_at self.now (number_of map) key) ≡ None)) }
-        ensures none { IsTrue result → (pages : List (List ℕ)) (values : BucketMap) → Content pages self.now (bucket_at self.now (number_of map) key) values
+        ensures exact { IsTrue result ↔ ((first_of (chains_of self.now) (bucket_at self.now (map_number map) key) ≡ 0)
+            × (finite.get (cached_of self.now) (bucket_at self.now (map_number map) key) ≡ None)) }
+        ensures none { IsTrue result → (pages : List (List ℕ)) (values : BucketMap) → Content pages self.now (bucket_at self.now (map_number map) key) values
             → values ≡ finite.empty }
-        ensures found { IsTrue result → (rest now : Image) → Has rest now self.now → finite.get (now.maps (number_of map)) key ≡ None }
+        ensures found { IsTrue result → (rest now : Image) → Has rest now self.now → finite.get (now.maps (map_number map)) key ≡ None }
     {
         let n = self.chain_of(map, key);
         if self.chains.first_page(n) != 0 {
@@ -61,8 +61,8 @@ impl<'d, D: Disk> Buckets<'d, D> {
     /// The value of a key in a map.
     pub fn get(&mut self, map: StoreMap, key: u64) -> Result<Option<Bytes>, StoreFault>
         requires ready { IsReady self.old }
-        ensures bytes { GetsBytes (number_of map) key self.old self.new result }
-        ensures touches { Touches (number_of map) key self.old self.new result }
+        ensures bytes { GetsBytes (map_number map) key self.old self.new result }
+        ensures touches { Touches (map_number map) key self.old self.new result }
     {
         if self.is_bare(map, key) {
             return Ok(None);
@@ -81,10 +81,10 @@ impl<'d, D: Disk> Buckets<'d, D> {
 
     // A copy of the value of a key whose bucket is there.
     fn copied(&self, map: StoreMap, key: u64) -> Result<Option<Bytes>, OutOfMemory>
-        requires there { IsThere self.now (number_of map) key }
+        requires there { IsThere self.now (map_number map) key }
         ensures value { IfOk result (λ found. (pages : List (List ℕ)) (values : BucketMap)
-            → Content pages self.now (bucket_at self.now (number_of map) key) values → found ≡ finite.get values key) }
-        ensures found { IfOk result (λ found. (rest now : Image) → Has rest now self.now → found ≡ finite.get (now.maps (number_of map)) key) }
+            → Content pages self.now (bucket_at self.now (map_number map) key) values → found ≡ finite.get values key) }
+        ensures found { IfOk result (λ found. (rest now : Image) → Has rest now self.now → found ≡ finite.get (now.maps (map_number map)) key) }
     {
         match self.value(map, key) {
             Some(value) => {
@@ -98,8 +98,8 @@ impl<'d, D: Disk> Buckets<'d, D> {
     /// The records of the bucket of a key, by rising key. The buckets of 0, 1 and so on are all of the map.
     pub fn records(&mut self, map: StoreMap, key: u64) -> Result<Vec<(u64, Bytes)>, StoreFault>
         requires ready { IsReady self.old }
-        ensures records { GetsRecords (number_of map) key self.old self.new result }
-        ensures touches { Touches (number_of map) key self.old self.new result }
+        ensures records { GetsRecords (map_number map) key self.old self.new result }
+        ensures touches { Touches (map_number map) key self.old self.new result }
     {
         if self.is_bare(map, key) {
             return Ok(Vec::new(self.alloc));
@@ -118,10 +118,10 @@ impl<'d, D: Disk> Buckets<'d, D> {
 
     // The records of a bucket that is there.
     fn listed(&self, map: StoreMap, key: u64) -> Result<Vec<(u64, Bytes)>, OutOfMemory>
-        requires there { IsThere self.now (number_of map) key }
+        requires there { IsThere self.now (map_number map) key }
         ensures records { IfOk result (λ records. (pages : List (List ℕ)) (values : BucketMap)
-            → Content pages self.now (bucket_at self.now (number_of map) key) values → records.items ≡ finite.entries values) }
-        ensures found { IfOk result (λ records. (rest now : Image) → Has rest now self.now → IsBucketOf now (number_of map) (key % now.root.buckets) records.items) }
+            → Content pages self.now (bucket_at self.now (map_number map) key) values → records.items ≡ finite.entries values) }
+        ensures found { IfOk result (λ records. (rest now : Image) → Has rest now self.now → IsBucketOf now (map_number map) (key % now.root.buckets) records.items) }
     {
         self.cache.records(self.chain_of(map, key))
     }
@@ -129,10 +129,10 @@ impl<'d, D: Disk> Buckets<'d, D> {
     /// The records of the bucket of a key, which is there, by rising key: nothing is copied. `None`: the transaction has changed
     /// them, but for putting others behind them; then `records` tells them.
     pub fn lent(&self, map: StoreMap, key: u64) -> Option<&Records>
-        requires there { IsThere self.now (number_of map) key }
+        requires there { IsThere self.now (map_number map) key }
         ensures records { IfSome result (λ records. (pages : List (List ℕ)) (values : BucketMap)
-            → Content pages self.now (bucket_at self.now (number_of map) key) values → records.now ≡ finite.entries values) }
-        ensures found { IfSome result (λ records. (rest now : Image) → Has rest now self.now → IsBucketOf now (number_of map) (key % now.root.buckets) records.now) }
+            → Content pages self.now (bucket_at self.now (map_number map) key) values → records.now ≡ finite.entries values) }
+        ensures found { IfSome result (λ records. (rest now : Image) → Has rest now self.now → IsBucketOf now (map_number map) (key % now.root.buckets) records.now) }
     {
         self.cache.lent(self.chain_of(map, key))
     }

@@ -6,7 +6,7 @@ use crate::buckets::deeds::{key_of, none, string_of};
 use bucket_store::Buckets;
 use chain_store::Root;
 use doubles::MemDisk;
-use example_table::{number_of, row_of};
+use example_table::{named_row, number_in};
 use osm_base::Bytes;
 use page_journal::StoreFault;
 use std::alloc::{AllocError, Global};
@@ -96,7 +96,7 @@ pub fn fields(
 }
 
 /// Gives a store without buckets some.
-pub fn settle(
+pub fn set_buckets(
     alloc: Global,
     buckets: &mut Buckets<'_, MemDisk>,
     text: &str,
@@ -104,7 +104,7 @@ pub fn settle(
     requires { has_refused buckets.old ≡ false }
     ensures { OnOk result (has_refused buckets.new ≡ false) }
 {
-    let count = number_of(text).unwrap_or(0);
+    let count = number_in(text).unwrap_or(0);
     if !count.is_power_of_two() || count > 65536 || buckets.root().buckets != 0 {
         return none(alloc);
     }
@@ -118,7 +118,7 @@ fn spelled(alloc: Global, text: &str) -> Result<Vec<u8>, AllocError> {
         return Vec::from_slice(alloc, text.as_bytes());
     };
     let mut bytes = Vec::new(alloc);
-    for _ in 0..number_of(count).unwrap_or(0) {
+    for _ in 0..number_in(count).unwrap_or(0) {
         bytes.push(b'x')?;
     }
     Ok(bytes)
@@ -126,7 +126,7 @@ fn spelled(alloc: Global, text: &str) -> Result<Vec<u8>, AllocError> {
 
 // Three numbers.
 fn fields_of(text: &str) -> Option<(u64, u64, u64)> {
-    let (format, behind) = row_of(text)?;
-    let (state, changes) = row_of(behind)?;
-    Some((number_of(format)?, number_of(state)?, number_of(changes)?))
+    let (format, behind) = named_row(text)?;
+    let (state, changes) = named_row(behind)?;
+    Some((number_in(format)?, number_in(state)?, number_in(changes)?))
 }

@@ -2,12 +2,12 @@
 ghost use Rattle.std.specs.Prelude.{◌≡◌, ◌<◌, false, IfSome, OnOk};
 ghost use Rattle.bucket_store.specs.Transaction.{has_refused};
 
-use crate::buckets::changing::{fields, give, put, remove, settle};
+use crate::buckets::changing::{fields, give, put, remove, set_buckets};
 use crate::buckets::looking::{get, listed, load, root_text, whole};
 use crate::buckets::pages::{free, home, pages_of};
 use bucket_store::Buckets;
 use doubles::MemDisk;
-use example_table::{number_of, row_of};
+use example_table::{named_row, number_in};
 use page_journal::StoreFault;
 use std::alloc::{AllocError, Global};
 use value_bytes::StoreMap;
@@ -21,7 +21,7 @@ pub fn answer_of(
     requires { has_refused buckets.old ≡ false }
     ensures { OnOk result (has_refused buckets.new ≡ false) }
 {
-    let (word, text) = row_of(deed).unwrap_or((deed, ""));
+    let (word, text) = named_row(deed).unwrap_or((deed, ""));
     match word {
         "get" => get(alloc, buckets, text),
         "records" => listed(alloc, buckets, text),
@@ -35,7 +35,7 @@ pub fn answer_of(
         "remove" => remove(alloc, buckets, text),
         "store" => give(alloc, buckets, text),
         "fields" => fields(alloc, buckets, text),
-        "buckets" => settle(alloc, buckets, text),
+        "buckets" => set_buckets(alloc, buckets, text),
         _ => none(alloc),
     }
 }
@@ -55,23 +55,23 @@ pub fn push_blank(text: &mut String) -> Result<(), AllocError> {
 
 /// A map, and the text behind it. `None`: there is no such map.
 pub fn map_of(text: &str) -> Option<(StoreMap, &str)> {
-    let (number, rest) = row_of(text)?;
-    Some((StoreMap::with_number(number_of(number)?)?, rest))
+    let (number, rest) = named_row(text)?;
+    Some((StoreMap::with_number(number_in(number)?)?, rest))
 }
 
 /// A map, a key of it, and the text behind them. `None`: there is no such map.
 pub fn key_of(text: &str) -> Option<(StoreMap, u64, &str)> {
     let (map, behind) = map_of(text)?;
-    let (key, rest) = row_of(behind)?;
-    Some((map, number_of(key)?, rest))
+    let (key, rest) = named_row(behind)?;
+    Some((map, number_in(key)?, rest))
 }
 
 /// A string of the store, and the text behind it. `None`: there is no such string.
 pub fn string_of(text: &str) -> Option<(u32, &str)>
     ensures { IfSome result (λ found. found.0 < 8) }
 {
-    let (n, rest) = row_of(text)?;
-    let n = u32::try_from(number_of(n)?).ok()?;
+    let (n, rest) = named_row(text)?;
+    let n = u32::try_from(number_in(n)?).ok()?;
     if n >= 8 {
         return None;
     }

@@ -5,7 +5,7 @@ ghost use Rattle.bucket_store.specs.Transaction.{has_refused};
 use crate::buckets::deeds::{key_of, map_of, none, push_blank, string_of};
 use bucket_store::{Buckets, WholeMap};
 use doubles::MemDisk;
-use example_table::number_of;
+use example_table::number_in;
 use osm_base::Bytes;
 use page_journal::StoreFault;
 use std::alloc::{AllocError, Global};
@@ -115,7 +115,7 @@ fn values_text(alloc: Global, whole: &WholeMap, keys: &str) -> Result<String, Al
 
 fn push_found(text: &mut String, whole: &WholeMap, key: &str) -> Result<(), AllocError> {
     push_blank(text)?;
-    let Some(key) = number_of(key) else {
+    let Some(key) = number_in(key) else {
         return text.push_str("no key");
     };
     match whole.get(key) {

@@ -6,7 +6,7 @@ ghost use Rattle.bucket_store.specs.Transaction.{chains_of, has_refused};
 use crate::buckets::deeds::{none, push_blank};
 use bucket_store::Buckets;
 use doubles::MemDisk;
-use example_table::number_of;
+use example_table::number_in;
 use page_journal::StoreFault;
 use std::alloc::{AllocError, Global};
 
@@ -52,7 +52,7 @@ pub fn home(alloc: Global, buckets: &mut Buckets<'_, MemDisk>) -> Result<String,
 fn chain_of(text: &str, buckets: u64) -> Option<u32>
     ensures { IfSome result (λ n. (n < 16) ⊎ IsBucketChain buckets n) }
 {
-    let n = u32::try_from(number_of(text)?).ok()?;
+    let n = u32::try_from(number_in(text)?).ok()?;
     if n < 16 {
         return Some(n);
     }

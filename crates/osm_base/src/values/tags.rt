@@ -136,8 +136,8 @@ fn value_in<'a>(text: &'a [u8], spans: &[Span], key: &str) -> Option<&'a str>
         ≡ map.find (slice_cmp nat_cmp) (chars key.now) (pairs_of text.now spans.now) }
 {
     for span in spans {
-        if text_of(text, span.key, span.value) == key {
-            return Some(text_of(text, span.value, span.end));
+        if span_text(text, span.key, span.value) == key {
+            return Some(span_text(text, span.value, span.end));
         }
     }
     None
@@ -150,7 +150,7 @@ fn key_at<'a>(text: &'a [u8], spans: &[Span], index: usize) -> &'a str
     ensures key { (past : Span) → result.now ≡ key_bytes text.now (slice_index_or spans.now index past) }
 {
     let span = spans[index];
-    text_of(text, span.key, span.value)
+    span_text(text, span.key, span.value)
 }
 
 /// The value of the tag at a place.
@@ -160,7 +160,7 @@ fn value_at<'a>(text: &'a [u8], spans: &[Span], index: usize) -> &'a str
     ensures value { (past : Span) → result.now ≡ value_bytes text.now (slice_index_or spans.now index past) }
 {
     let span = spans[index];
-    text_of(text, span.value, span.end)
+    span_text(text, span.value, span.end)
 }
 
 /// The place of a key, looked for by halves.
@@ -185,7 +185,7 @@ fn search(text: &[u8], spans: &[Span], key: &str) -> Option<usize>
 }
 
 /// The text that stands between two places of a row of bytes.
-fn text_of(text: &[u8], from: usize, to: usize) -> &str
+fn span_text(text: &[u8], from: usize, to: usize) -> &str
     requires order { from ≤ to }
     requires within { to ≤ length text.now }
     requires utf8 { IsUtf8 (slice_range text.now from to) }

@@ -11,7 +11,7 @@ use Rattle.bucket_store.specs.declared.buckets.Buckets.{Buckets}
 use Rattle.value_bytes.specs.Forms.{IsNoValue}
 use Rattle.value_bytes.specs.Nodes.{record_bytes}
 use Rattle.middle_nodes.specs.Old.{IsOldPlace, old_bytes, unknown}
-use Rattle.value_bytes.specs.StoreMap.{number_of}
+use Rattle.value_bytes.specs.StoreMap.{map_number}
 use Rattle.value_bytes.specs.declared.store_map.StoreMap.TheVariants.{Nodes}
 use Rattle.row_store.specs.Loading.{Looks}
 use Rattle.back_index.specs.Calls.{page_in}
@@ -26,9 +26,9 @@ IsRenewed (Some bytes) new = (place : Option PlaceOf) × IsOldPlace place × (by
 
 -- the records of these nodes are written anew, and all else in the store stays
 pub record Renews (Part : ℕ → Type 0) (now after : Image) : Type 0 where
-  pub only : OnlyMap (number_of Nodes) now after
-  pub here : (id : ℕ) → Part id → IsRenewed (finite.get (now.maps (number_of Nodes)) id) (finite.get (after.maps (number_of Nodes)) id)
-  pub beside : (id : ℕ) → ¬ Part id → finite.get (after.maps (number_of Nodes)) id ≡ finite.get (now.maps (number_of Nodes)) id
+  pub only : OnlyMap (map_number Nodes) now after
+  pub here : (id : ℕ) → Part id → IsRenewed (finite.get (now.maps (map_number Nodes)) id) (finite.get (after.maps (map_number Nodes)) id)
+  pub beside : (id : ℕ) → ¬ Part id → finite.get (after.maps (map_number Nodes)) id ≡ finite.get (now.maps (map_number Nodes)) id
 
 -- a node
 abbrev pub Any : ℕ → Type 0
@@ -40,16 +40,16 @@ IsIn buckets bucket id = id % buckets ≡ bucket % buckets
 
 -- these records are in the store
 abbrev pub AreThere : Image → List (ℕ × List ℕ) → Type 0
-AreThere now records = AllByRecursion (λ one. finite.get (now.maps (number_of Nodes)) one.0 ≡ Some one.1) records
+AreThere now records = AllByRecursion (λ one. finite.get (now.maps (map_number Nodes)) one.0 ≡ Some one.1) records
 
 -- the record of one of these nodes does not read, and its bucket begins at this page
 pub record HasOldUnread {D : Type 0} {g : Ghosts D} (Part : ℕ → Type 0) (buckets : Buckets D g) (now : Image) (at : ℕ) : Type 0 where
   pub id : ℕ
   pub among : Part id
   pub bytes : List ℕ
-  pub there : finite.get (now.maps (number_of Nodes)) id ≡ Some bytes
+  pub there : finite.get (now.maps (map_number Nodes)) id ≡ Some bytes
   pub none : IsNoValue old_bytes IsOldPlace bytes
-  pub page_is : at ≡ page_in buckets (number_of Nodes) id
+  pub page_is : at ≡ page_in buckets (map_number Nodes) id
 
 -- the store at rest was only looked at, each of its buckets once
 pub record LooksOnce {D T : Type 0} {g : Ghosts D} (old new : Buckets D g) (result : Result T StoreFault) : Type 0 where

@@ -5,7 +5,7 @@ ghost use Rattle.style_read.specs.declared.style.TableDef.{TableDef};
 ghost use Rattle.value_bytes.specs.Forms.{IsNoValue};
 ghost use Rattle.bucket_store.specs.Image.{Has, Image, IsSoundAnswer, with_value};
 ghost use Rattle.bucket_store.specs.Transaction.{IsReady};
-ghost use Rattle.value_bytes.specs.StoreMap.{number_of};
+ghost use Rattle.value_bytes.specs.StoreMap.{map_number};
 ghost use Rattle.value_bytes.specs.declared.store_map.StoreMap.TheVariants.{Nodes};
 ghost use Rattle.middle_nodes.specs.Old.{IsOldPlace, old_bytes, unknown};
 ghost use Rattle.value_bytes.specs.Nodes.{record_bytes};
@@ -96,8 +96,8 @@ fn renew<D: Disk>(
     requires ready { IsReady buckets.old }
     ensures renews { OnOk result ((rest now : Image) → Has rest now buckets.old
         → (place : Option PlaceOf) × IsOldPlace place × (bytes.now ≡ old_bytes place)
-        × Has rest (with_value (number_of Nodes) id (Some (record_bytes (unknown place))) now) buckets.new) }
-    ensures once { RenewsOnce Always (λ now at. IsNoValue old_bytes IsOldPlace bytes.now × (at ≡ page_in buckets.old (number_of Nodes) id))
+        × Has rest (with_value (map_number Nodes) id (Some (record_bytes (unknown place))) now) buckets.new) }
+    ensures once { RenewsOnce Always (λ now at. IsNoValue old_bytes IsOldPlace bytes.now × (at ≡ page_in buckets.old (map_number Nodes) id))
         buckets.old buckets.new result }
 {
     match read_old(alloc, bytes) {

@@ -2,7 +2,7 @@
 use Rattle.std.proofs.Common.{rules, ◌≡◌, ◌∙◌, ℕ, List, sym, ap, subst, refl, Ok}
 use Rattle.std.specs.FinMap as map
 use Rattle.osm_base.specs.values.Ids.{has}
-use Rattle.value_bytes.specs.StoreMap.{number_of}
+use Rattle.value_bytes.specs.StoreMap.{map_number}
 use Rattle.value_bytes.specs.declared.store_map.StoreMap.TheVariants.{Ways}
 use Rattle.back_index.specs.Index.{HasNodes}
 use Rattle.back_index.specs.Visits.{Refuses}
@@ -37,9 +37,9 @@ returns-in-Ok-clause-asks g c =
     record {
       touches = record {
         answers = search rules;
-        reads = reads_bucket old new (number_of Ways) c.args.way touches.reads;
+        reads = reads_bucket old new (map_number Ways) c.args.way touches.reads;
         stops = search rules;
-        within = λ may allowed only. reads_key may old new (number_of Ways) c.args.way c.requires.ready.going allowed touches.stays
+        within = λ may allowed only. reads_key may old new (map_number Ways) c.args.way c.requires.ready.going allowed touches.stays
             {T = Unit {0}} (Ok tt) touches.reads touches.refused only;
       };
       has = λ none rest now owns. c.in_default.ensures.brings.keeps.has refl rest now owns;
@@ -51,7 +51,7 @@ returns-in-Err-read_nodes-clause-asks g c = record {
     answers = search rules;
     reads = search rules;
     stops = λ rest now owns.
-        let found = map.get (now.maps (number_of Ways)) c.args.way in
+        let found = map.get (now.maps (map_number Ways)) c.args.way in
         let bad : ℕ → Type 0 = λ at. (¬ ((nodes : List ℕ) × HasNodes found nodes)) × (at ≡ c.args.page) in
         subst (Refuses bad) (sym c.refused.ensures.fault)
         (needs_refuses bad _ c.in-Err-read_nodes.fault c.args.page c.in-Err-read_nodes.ensures.refused

@@ -4,7 +4,7 @@ use Rattle.std.specs.List.{filter}
 use Rattle.std.specs.FinMap as finite
 use Rattle.osm_base.specs.values.Ids.{has}
 use Rattle.object_fold.specs.Listing.{listers}
-use Rattle.value_bytes.specs.StoreMap.{number_of}
+use Rattle.value_bytes.specs.StoreMap.{map_number}
 use Rattle.value_bytes.specs.declared.store_map.StoreMap.TheVariants.{Ways, WaysOfBlocks}
 use Rattle.store_maps.specs.Asked.{MayEach}
 use Rattle.store_maps.specs.Maps.{Maps}
@@ -33,7 +33,7 @@ returns-in-Err-clause-asks g c = record {
     stops = λ rest now owns.
         let old = c.args.buckets.now in
         let block = c.args.id / BLOCK in
-        let which : ℕ = number_of WaysOfBlocks in
+        let which : ℕ = map_number WaysOfBlocks in
         let found = finite.get (now.maps which) block in
         refuses_more (λ at. IsUnread found × (at ≡ page_in old which block)) (IsDamaged old now)
         (λ at bad. inl (record { own = WaysOfBlocks; id = block; is_index = inl refl; unread = bad.0; page_is = bad.1 })) c.in-Err.fault
@@ -57,7 +57,7 @@ returns-clause-ids g c =
       rising = finds.rising;
       are = λ rest now owns maps index holds. finds.are rest now (c.in-Ok.ensures.asks.has refl rest now owns) maps holds
           ∙ ap (filter (list_it maps c.args.id))
-          (c.as_slice.ensures.items ∙ reads_one (finite.get (now.maps (number_of WaysOfBlocks)) block) c.in-Ok.ways
+          (c.as_slice.ensures.items ∙ reads_one (finite.get (now.maps (map_number WaysOfBlocks)) block) c.in-Ok.ways
           (finite.get maps.ways_of_blocks block) (c.in-Ok.ensures.ids.are rest now owns) (index.ways_of_blocks block));
     })
     c.ways_with.ensures.ids
@@ -76,8 +76,8 @@ returns-clause-asks g c =
         answers = search rules;
         reads = reads_then old mid new c.ways_with.result first.asks.touches.reads second.touches.reads;
         stops = λ rest now owns.
-            let found = finite.get (now.maps (number_of WaysOfBlocks)) block in
-            let fine : ℕ → Type 0 = λ way. (nodes : List ℕ) × HasNodes (finite.get (now.maps (number_of Ways)) way) nodes in
+            let found = finite.get (now.maps (map_number WaysOfBlocks)) block in
+            let fine : ℕ → Type 0 = λ way. (nodes : List ℕ) × HasNodes (finite.get (now.maps (map_number Ways)) way) nodes in
             refuses_result (List ℕ) (StopsAt fine (λ way. c.page_of-page.result) ways) (IsDamaged old now) c.ways_with.result
             (λ at stops. inr (record {
               block = block;
@@ -87,14 +87,14 @@ returns-clause-asks g c =
               said = ap (λ (l : List ℕ). has l stops.thing) stops.parts ∙ has_part stops.front stops.thing stops.behind;
               none = stops.bad;
               page_is = stops.page_is ∙ c.page_of-page.ensures
-                  ∙ page_same old mid (number_of WaysOfBlocks) block first.asks.touches.answers.stays;
+                  ∙ page_same old mid (map_number WaysOfBlocks) block first.asks.touches.answers.stays;
             })) (second.touches.stops rest now (first.asks.has refl rest now owns));
         within = λ may asked only.
             let same : ways ≡ listers asked.maps.ways_of_blocks block =
-            c.as_slice.ensures.items ∙ reads_one (finite.get (asked.now.maps (number_of WaysOfBlocks)) block) c.in-Ok.ways
+            c.as_slice.ensures.items ∙ reads_one (finite.get (asked.now.maps (map_number WaysOfBlocks)) block) c.in-Ok.ways
             (finite.get asked.maps.ways_of_blocks block)
             (first.ids.are asked.rest asked.now asked.has_it) (asked.listings.ways_of_blocks block) in
-            second.touches.within may (subst (MayEach may (number_of Ways)) (sym same) asked.allowed.1)
+            second.touches.within may (subst (MayEach may (map_number Ways)) (sym same) asked.allowed.1)
             (first.asks.touches.within may asked.allowed.0 only);
       };
       has = λ none rest now owns. second.has none rest now (first.asks.has refl rest now owns);
@@ -106,7 +106,7 @@ returns-clause-there g c =
     on_ok (List ℕ) _ _ c.ways_with.result
     (λ there rest now owns. (
       c.as_slice.result.now,
-      subst (λ (l : List ℕ). ReadsIds (finite.get (now.maps (number_of WaysOfBlocks)) block) l) (sym c.as_slice.ensures.items)
+      subst (λ (l : List ℕ). ReadsIds (finite.get (now.maps (map_number WaysOfBlocks)) block) l) (sym c.as_slice.ensures.items)
           (c.in-Ok.ensures.ids.are rest now owns),
       there rest now (c.in-Ok.ensures.asks.has refl rest now owns),
     ))

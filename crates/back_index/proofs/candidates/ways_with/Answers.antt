@@ -9,7 +9,7 @@ use Rattle.std.proofs.lemmas.List.Kept.{IsStrictlySortedBy-filter}
 use Rattle.osm_base.specs.values.Ids.{AreRisingIds, has}
 use Rattle.osm_base.specs.values.Key.{IsId}
 use Rattle.object_fold.proofs.SortedIds.{same_rising}
-use Rattle.value_bytes.specs.StoreMap.{number_of}
+use Rattle.value_bytes.specs.StoreMap.{map_number}
 use Rattle.value_bytes.specs.declared.store_map.StoreMap.TheVariants.{Ways}
 use Rattle.store_maps.specs.Named.{list_it}
 use Rattle.back_index.specs.Index.{HasNodes}
@@ -58,9 +58,9 @@ loop-way-preserved g c =
           (each_if IsId c.loop-way.found.items way lists inv.ids (at_place IsId ways k 0 within c.requires.rising.1));
       reads = reads_more c.args.buckets.now before after inv.reads did.asks.touches.reads;
       within = λ may all only. did.asks.touches.within may
-          (at_place (λ (id : ℕ). may (number_of Ways) id ≡ true) ways k 0 within all) (inv.within may all only);
+          (at_place (λ (id : ℕ). may (map_number Ways) id ≡ true) ways k 0 within all) (inv.within may all only);
       fine = λ rest now owns.
-          let fine : ℕ → Type 0 = λ way. (nodes : List ℕ) × HasNodes (finite.get (now.maps (number_of Ways)) way) nodes in
+          let fine : ℕ → Type 0 = λ way. (nodes : List ℕ) × HasNodes (finite.get (now.maps (map_number Ways)) way) nodes in
           let found = did.lists rest now (inv.has_still rest now owns) in
           subst (λ (l : List ℕ). AllByRecursion fine l) (sym more)
           (each_more fine (take k ways) way (inv.fine rest now owns) (found.0, found.1));
@@ -83,12 +83,12 @@ returns-in-Err-clause-asks g c =
         reads = search rules;
         stops = λ rest now owns.
             let way = get_or ways k 0 in
-            let fine : ℕ → Type 0 = λ way. (nodes : List ℕ) × HasNodes (finite.get (now.maps (number_of Ways)) way) nodes in
+            let fine : ℕ → Type 0 = λ way. (nodes : List ℕ) × HasNodes (finite.get (now.maps (map_number Ways)) way) nodes in
             refuses_more (λ at. (¬ fine way) × (at ≡ c.args.page)) (StopsAt fine (λ way. c.args.page) ways)
             (λ at bad. stops_here fine (λ way. c.args.page) ways k at c.loop-way-test.true (inv.fine rest now owns) bad.0 bad.1)
             c.in-Err.fault (c.in-Err.ensures.asks.touches.stops rest now (inv.has_still rest now owns));
         within = λ may all only. c.in-Err.ensures.asks.touches.within may
-            (at_place (λ (id : ℕ). may (number_of Ways) id ≡ true) ways k 0 c.loop-way-test.true all) (inv.within may all only);
+            (at_place (λ (id : ℕ). may (map_number Ways) id ≡ true) ways k 0 c.loop-way-test.true all) (inv.within may all only);
       };
       has = λ none rest now owns. c.in-Err.ensures.asks.has none rest now (inv.has_still rest now owns);
     }
@@ -133,6 +133,6 @@ returns-clause-asks g c = record {
 
 pub returns-clause-there : goal.returns-clause-there
 returns-clause-there g c rest now owns =
-    let fine : ℕ → Type 0 = λ way. (nodes : List ℕ) × HasNodes (finite.get (now.maps (number_of Ways)) way) nodes in
+    let fine : ℕ → Type 0 = λ way. (nodes : List ℕ) × HasNodes (finite.get (now.maps (map_number Ways)) way) nodes in
     subst (λ (l : List ℕ). AllByRecursion fine l) (take_all c.loop-way.way-index c.args.ways.now c.loop-way-test.false)
     (c.loop-way.invariant.fine rest now owns)

@@ -9,7 +9,7 @@ use Rattle.store_maps.specs.Maps.{Maps}
 use Rattle.store_maps.specs.Named.{list_it}
 use Rattle.back_index.specs.Index.{HasNodes, HoldsWays}
 use Rattle.back_index.specs.Reads.{HasReadOnly, ReadsBuckets}
-use Rattle.value_bytes.specs.StoreMap.{number_of}
+use Rattle.value_bytes.specs.StoreMap.{map_number}
 use Rattle.value_bytes.specs.declared.store_map.StoreMap.TheVariants.{Ways}
 use Rattle.back_index.proofs.Chained.{StillAnswers}
 use Rattle.back_index.proofs.candidates.ways_with.Given as goal
@@ -22,9 +22,9 @@ invariant-loop-way g l = record {
   has_still : (rest now : Image) → Has rest now l.initial.buckets → Has rest now l.buckets;
   ids : AllByRecursion IsId l.found.items;
   reads : ReadsBuckets l.initial.buckets l.buckets;
-  within : (may : May) → MayEach may (number_of Ways) l.ways → HasReadOnly may l.initial.buckets → HasReadOnly may l.buckets;
+  within : (may : May) → MayEach may (map_number Ways) l.ways → HasReadOnly may l.initial.buckets → HasReadOnly may l.buckets;
   fine : (rest now : Image) → Has rest now l.initial.buckets
-      → AllByRecursion (λ way. (nodes : List ℕ) × HasNodes (finite.get (now.maps (number_of Ways)) way) nodes) (take l.way-index l.ways);
+      → AllByRecursion (λ way. (nodes : List ℕ) × HasNodes (finite.get (now.maps (map_number Ways)) way) nodes) (take l.way-index l.ways);
   filtered : (rest now : Image) → Has rest now l.initial.buckets → (maps : Maps) → HoldsWays now maps
       → l.found.items ≡ filter (list_it maps l.node) (take l.way-index l.ways);
 }

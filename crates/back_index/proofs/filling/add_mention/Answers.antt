@@ -2,8 +2,8 @@
 use Rattle.std.proofs.Common.{rules, ◌≡◌, ◌<◌, ◌∙◌, ℕ, List, [], ◌∷◌, ◌++◌, sym, ap, subst, refl}
 use Rattle.osm_base.specs.values.Ids.{has}
 use Rattle.bucket_store.specs.Image.{with_value}
-use Rattle.value_bytes.specs.StoreMap.{number_of}
-use Rattle.back_index.specs.Filling.{Runs}
+use Rattle.value_bytes.specs.StoreMap.{map_number}
+use Rattle.back_index.specs.Filling.{MentionRuns}
 use Rattle.back_index.specs.Relisting.{kept_list}
 use Rattle.back_index.proofs.Filled.{runs_kept, runs_more, runs_next}
 use Rattle.back_index.proofs.Reading.{on_ok}
@@ -19,12 +19,12 @@ returns-then-mention-run-clause-runs g c =
     (λ pushed rest now owns. (
       now,
       c.push.ensures.has rest now owns,
-      only_none (number_of c.args.map) now,
+      only_none (map_number c.args.map) now,
       λ done runs.
-          subst (λ (ids : List ℕ). Runs (done ++ own ∷ []) c.push.new.run.id ids (now.maps (number_of c.args.map))) (sym pushed)
-          (subst (λ (at : ℕ). Runs (done ++ own ∷ []) at (run.ids.items ++ own.own ∷ []) (now.maps (number_of c.args.map)))
+          subst (λ (ids : List ℕ). MentionRuns (done ++ own ∷ []) c.push.new.run.id ids (now.maps (map_number c.args.map))) (sym pushed)
+          (subst (λ (at : ℕ). MentionRuns (done ++ own ∷ []) at (run.ids.items ++ own.own ∷ []) (now.maps (map_number c.args.map)))
           (sym c.push.ensures.at)
-          (runs_more done run.id run.ids.items (now.maps (number_of c.args.map)) own same runs)),
+          (runs_more done run.id run.ids.items (now.maps (map_number c.args.map)) own same runs)),
     ))
     c.push.ensures.ids
 
@@ -32,7 +32,7 @@ pub returns-clause-runs : goal.returns-clause-runs
 returns-clause-runs g c =
     let run = c.args.run.now in
     let own = c.args.mention in
-    let which : ℕ = number_of c.args.map in
+    let which : ℕ = map_number c.args.map in
     let lt : run.id < own.id = search rules in
     let taken : c.replace-ids.result.items ≡ run.ids.items = search rules in
     let none : c.replace-ids.new.dest.items ≡ [] = search rules in
@@ -47,9 +47,9 @@ returns-clause-runs g c =
       λ done runs.
           let all = runs_kept done run.id run.ids.items kept.0 (now.maps which) (after.maps which) runs kept.1
           (λ id. kept.2 id ∙ ap (λ (l : List ℕ). has l id) taken) sets.here sets.beside in
-          subst (λ (ids : List ℕ). Runs (done ++ own ∷ []) c.push-2.new.run.id ids (after.maps which))
+          subst (λ (ids : List ℕ). MentionRuns (done ++ own ∷ []) c.push-2.new.run.id ids (after.maps which))
           (sym (pushed ∙ ap (λ (l : List ℕ). l ++ own.own ∷ []) none))
-          (subst (λ (at : ℕ). Runs (done ++ own ∷ []) at ([] ++ own.own ∷ []) (after.maps which)) (sym c.push-2.ensures.at)
+          (subst (λ (at : ℕ). MentionRuns (done ++ own ∷ []) at ([] ++ own.own ∷ []) (after.maps which)) (sym c.push-2.ensures.at)
           (runs_more done own.id [] (after.maps which) own refl
           (runs_next done run.id own.id run.ids.items (now.maps which) (after.maps which) runs lt all))),
     ))
@@ -61,7 +61,7 @@ returns-clause-touches g c = record {
   reads = search rules;
   stops = λ rest now owns.
       let kept = c.in_default.ensures.keeps rest now owns in
-      c.push-2.ensures.touches.stops rest (with_value (number_of c.args.map) c.args.run.now.id (kept_list kept.0) now) kept.3;
+      c.push-2.ensures.touches.stops rest (with_value (map_number c.args.map) c.args.run.now.id (kept_list kept.0) now) kept.3;
   within = λ may allowed only. c.push-2.ensures.touches.within may tt (c.in_default.ensures.touches.within may allowed only);
 }
 

@@ -1,7 +1,7 @@
 -- What the entries tell is what is put.
 use Rattle.std.proofs.Common.{◌≡◌, ℕ, List, rules, sym, ap, ◌∙◌, subst}
 use Rattle.std.specs.List.Sorted.{IsNonDecreasingBy}
-use Rattle.value_bytes.specs.StoreMap.{number_of}
+use Rattle.value_bytes.specs.StoreMap.{map_number}
 use Rattle.back_index.specs.Filling.{ByIds, id_of, mentions_tell}
 use Rattle.back_index.specs.Listed.{map_told}
 use Rattle.back_index.specs.declared.mentions.Mention.{Mention}
@@ -29,7 +29,7 @@ returns-in-Ok-clause-fills g c =
       filled.1,
       filled.2,
       λ void. kept_as (mentions_tell items) (map_told c.args.map c.args.entries.now)
-          (filled.0.maps (number_of c.args.map)) same (filled.3 void),
+          (filled.0.maps (map_number c.args.map)) same (filled.3 void),
     ))
     c.keep_lists.ensures.fills
 
@@ -42,7 +42,7 @@ returns-in-Ok-clause-touches g c =
       reads = touches.reads;
       stops = touches.stops;
       within = λ may all only. touches.within may
-          (may_as may (number_of c.args.map) (mentions_tell items) (map_told c.args.map c.args.entries.now)
+          (may_as may (map_number c.args.map) (mentions_tell items) (map_told c.args.map c.args.entries.now)
           (λ id by. ap (λ (l : List Mention). mentions_tell l id by) c.as_slice.ensures.value ∙ c.in-Ok.ensures.told id by) all) only;
     }
 

@@ -2,10 +2,10 @@
 use Rattle.std.proofs.Common.{rules, arith, ◌≡◌, ◌≤◌, ◌<◌, ◌+◌, ◌∙◌, ℕ, List, [], ◌∷◌, ◌++◌, Ok, true, length, take, get_or, sym, ap, subst}
 use Rattle.std.proofs.lemmas.List.{get_or_default, take_all, take_more}
 use Rattle.bucket_store.specs.Image.{with_value}
-use Rattle.value_bytes.specs.StoreMap.{number_of}
+use Rattle.value_bytes.specs.StoreMap.{map_number}
 use Rattle.back_index.specs.Relisting.{kept_list}
 use Rattle.back_index.specs.Asking.{reads_more, reads_none}
-use Rattle.back_index.specs.Filling.{AreIds, AreKept, Runs, mentions_tell}
+use Rattle.back_index.specs.Filling.{AreIds, AreKept, MentionRuns, mentions_tell}
 use Rattle.back_index.specs.declared.mentions.Mention.{Mention}
 use Rattle.back_index.proofs.Chained.{answers_none, answers_then, ready_after}
 use Rattle.back_index.proofs.Filled.{no_ids_there, no_mention, nothing, runs_kept, runs_none}
@@ -20,8 +20,8 @@ returns-then-is_empty-clause-fills g c rest now owns =
     let none : c.args.mentions.now ≡ [] = nothing c.args.mentions.now (sym c.if-is_empty.true ∙ c.is_empty.ensures) in (
       now,
       owns,
-      only_none (number_of c.args.map) now,
-      λ void. kept_none c.args.mentions.now (now.maps (number_of c.args.map)) none void,
+      only_none (map_number c.args.map) now,
+      λ void. kept_none c.args.mentions.now (now.maps (map_number c.args.map)) none void,
     )
 
 pub loop-mention-init : goal.loop-mention-init
@@ -44,10 +44,10 @@ loop-mention-init g c =
       runs = λ rest now owns. (
         now,
         owns,
-        only_none (number_of c.args.map) now,
-        λ void. subst (λ (ids : List ℕ). Runs [] (get_or c.args.mentions.now 0 no_mention).id ids (now.maps (number_of c.args.map)))
+        only_none (map_number c.args.map) now,
+        λ void. subst (λ (ids : List ℕ). MentionRuns [] (get_or c.args.mentions.now 0 no_mention).id ids (now.maps (map_number c.args.map)))
             (sym none)
-            (runs_none (get_or c.args.mentions.now 0 no_mention).id (now.maps (number_of c.args.map)) void),
+            (runs_none (get_or c.args.mentions.now 0 no_mention).id (now.maps (map_number c.args.map)) void),
       );
     }
 
@@ -66,7 +66,7 @@ pub loop-mention-preserved : goal.loop-mention-preserved
 loop-mention-preserved g c =
     let before = c.loop-mention.buckets in
     let after = c.add_mention.new.buckets in
-    let which : ℕ = number_of c.args.map in
+    let which : ℕ = map_number c.args.map in
     let items : List Mention = c.args.mentions.now in
     let k : ℕ = c.loop-mention.mention-index in
     let within : k < length items = c.loop-mention-test.true in
@@ -94,7 +94,7 @@ loop-mention-preserved g c =
             next.0,
             next.1,
             only_then which now was.0 next.0 was.2 next.2,
-            λ void. subst (λ (l : List Mention). Runs l c.add_mention.new.run.id c.add_mention.new.run.ids.items (next.0.maps which))
+            λ void. subst (λ (l : List Mention). MentionRuns l c.add_mention.new.run.id c.add_mention.new.run.ids.items (next.0.maps which))
                 (sym more) (next.3 (take k items) (was.3 void)),
           );
     }
@@ -125,7 +125,7 @@ returns-clause-touches g c = record {
 
 pub returns-clause-fills : goal.returns-clause-fills
 returns-clause-fills g c =
-    let which : ℕ = number_of c.args.map in
+    let which : ℕ = map_number c.args.map in
     let items : List Mention = c.args.mentions.now in
     let k : ℕ = c.loop-mention.mention-index in
     let run = c.loop-mention.run in

@@ -1,7 +1,7 @@
 -- The bucket is brought, and then the list is read.
 use Rattle.std.proofs.Common.{rules, ◌≡◌, ◌∙◌, ℕ, sym, subst, Ok, refl}
 use Rattle.std.specs.FinMap as finite
-use Rattle.value_bytes.specs.StoreMap.{number_of}
+use Rattle.value_bytes.specs.StoreMap.{map_number}
 use Rattle.back_index.specs.Calls.{page_in}
 use Rattle.back_index.specs.Relisting.{IsUnread}
 use Rattle.back_index.specs.Visits.{Refuses}
@@ -31,7 +31,7 @@ pub returns-in-Ok-clause-asks : goal.returns-in-Ok-clause-asks
 returns-in-Ok-clause-asks g c =
     let old = c.args.buckets.now in
     let new = c.bring.new.self in
-    let which : ℕ = number_of c.args.map in
+    let which : ℕ = map_number c.args.map in
     let touches = c.in_default.ensures.touches in
     record {
       touches = record {
@@ -49,7 +49,7 @@ pub returns-in-Err-read_list-clause-asks : goal.returns-in-Err-read_list-clause-
 returns-in-Err-read_list-clause-asks g c =
     let old = c.args.buckets.now in
     let new = c.bring.new.self in
-    let which : ℕ = number_of c.args.map in
+    let which : ℕ = map_number c.args.map in
     record {
       touches = record {
         answers = search rules;

@@ -3,7 +3,7 @@ use Rattle.std.proofs.Common.{ℕ, sym, subst}
 use Rattle.std.specs.FinMap as finite
 use Rattle.osm_base.specs.values.Ids.{AreRisingIds}
 use Rattle.bucket_store.specs.Image.{Has}
-use Rattle.value_bytes.specs.StoreMap.{number_of}
+use Rattle.value_bytes.specs.StoreMap.{map_number}
 use Rattle.back_index.specs.Relisting.{ReadsIds}
 use Rattle.back_index.proofs.Held.{no_ids}
 use Rattle.back_index.proofs.Reading.{finds_rising, read_some, unread_some}
@@ -11,14 +11,14 @@ use Rattle.back_index.proofs.lists.read_list.Goals as goal
 
 pub returns-in-Some-clause-ids : goal.returns-in-Some-clause-ids
 returns-in-Some-clause-ids g c =
-    let which : ℕ = number_of c.args.map in
+    let which : ℕ = map_number c.args.map in
     finds_rising c.args.buckets.now (λ now. finite.get (now.maps which) c.args.id) c.read_ids.result c.read_ids.ensures.rising
     (read_some (λ rest now. Has rest now c.args.buckets.now) (λ now. finite.get (now.maps which) c.args.id) c.in-Some.bytes.now
     c.in-Some.ensures.found c.read_ids.result c.read_ids.ensures.ids)
 
 pub returns-in-Some-clause-refused : goal.returns-in-Some-clause-refused
 returns-in-Some-clause-refused g c =
-    unread_some (λ rest now. Has rest now c.args.buckets.now) (λ now. finite.get (now.maps (number_of c.args.map)) c.args.id)
+    unread_some (λ rest now. Has rest now c.args.buckets.now) (λ now. finite.get (now.maps (map_number c.args.map)) c.args.id)
     c.in-Some.bytes.now c.in-Some.ensures.found c.read_ids.result c.read_ids.ensures.refused
 
 pub returns-in-None-clause-ids : goal.returns-in-None-clause-ids

@@ -8,7 +8,7 @@ use Rattle.store_maps.specs.Turns.{blocks_in, listed_by}
 use Rattle.back_index.specs.Calls.{page_at}
 use Rattle.back_index.specs.Index.{Relists, all_visits}
 use Rattle.back_index.specs.Visits.{IsFine, StopsAt, visits}
-use Rattle.value_bytes.specs.StoreMap.{number_of}
+use Rattle.value_bytes.specs.StoreMap.{map_number}
 use Rattle.value_bytes.specs.declared.store_map.StoreMap.TheVariants.{WaysOfBlocks, RelationsOfNodes, RelationsOfWays}
 use Rattle.back_index.specs.declared.visit.Visit.{Visit}
 use Rattle.back_index.proofs.Chained.{page_same, ready_after}
@@ -64,7 +64,7 @@ returns-in-Way-clause-touches g c = record {
       (way_stops fine page key old new at is stops)) (c.relist_map.ensures.touches.stops rest now owns);
   within = λ may lists only.
       let is : c.args.key.kind ≡ kinds.Way = subst (λ (own : KeyOf). own.kind ≡ kinds.Way) c.key.view_is (cc (c.in-Way.is)) in
-      let of : Option Object → Kind → Type 0 = λ form kind. MayEach may (number_of WaysOfBlocks) (ids_for kinds.Way blocks_in kind form) in
+      let of : Option Object → Kind → Type 0 = λ form kind. MayEach may (map_number WaysOfBlocks) (ids_for kinds.Way blocks_in kind form) in
       c.relist_map.ensures.touches.within may
       (subst (of c.args.old.now) is lists.0.ways_of_blocks, subst (of c.args.new.now) is lists.1.ways_of_blocks) only;
 }
@@ -89,7 +89,7 @@ returns-in-Err-clause-touches g c = record {
       let is : c.args.key.kind ≡ kinds.Relation =
       subst (λ (own : KeyOf). own.kind ≡ kinds.Relation) c.key.view_is (cc (c.in-Relation.is)) in
       let of : Option Object → Kind → Type 0 =
-      λ form kind. MayEach may (number_of RelationsOfNodes) (ids_for kinds.Relation (listed kinds.Node) kind form) in
+      λ form kind. MayEach may (map_number RelationsOfNodes) (ids_for kinds.Relation (listed kinds.Node) kind form) in
       c.in-Err.ensures.touches.within may
       (subst (of c.args.old.now) is lists.0.relations_of_nodes, subst (of c.args.new.now) is lists.1.relations_of_nodes) only;
 }
@@ -128,26 +128,26 @@ returns-in_default-clause-touches g c = record {
       let lists = visits RelationsOfWays (listed_by (listed kinds.Way) old) (listed_by (listed kinds.Way) new) in
       let is : key.kind ≡ kinds.Relation = cc (c.in-Relation.is) in
       let pages : page_at mid ≡ page_at c.args.buckets.now
-      = λ i visit. page_same c.args.buckets.now mid (number_of visit.map) visit.id c.in_default.ensures.touches.answers.stays i in
+      = λ i visit. page_same c.args.buckets.now mid (map_number visit.map) visit.id c.in_default.ensures.touches.answers.stays i in
       refuses_result (Unit {0}) (StopsAt (IsFine first.0 own) (page_at mid) lists)
       (StopsAt (IsFine now c.args.key.id) (page_at c.args.buckets.now) (all_visits c.args.key old new))
       c.relist_map-in-Relation-2.result
       (λ at stops. subst (λ (k : KeyOf). StopsAt (IsFine now k.id) (page_at c.args.buckets.now) (all_visits k old new) at) c.key.view_is
       (ways_stop (IsFine now own) (page_at c.args.buckets.now) key old new at is
-      (turned_fine now own RelationsOfNodes nodes_old nodes_new (first.0.maps (number_of RelationsOfNodes)) first.3)
+      (turned_fine now own RelationsOfNodes nodes_old nodes_new (first.0.maps (map_number RelationsOfNodes)) first.3)
       (stops_as (IsFine first.0 own) (IsFine now own) (page_at c.args.buckets.now) lists at
-      (fine_as now first.0 own RelationsOfWays (number_of RelationsOfNodes) (listed_by (listed kinds.Way) old)
+      (fine_as now first.0 own RelationsOfWays (map_number RelationsOfNodes) (listed_by (listed kinds.Way) old)
       (listed_by (listed kinds.Way) new) first.2
-      (apart (number_of RelationsOfWays) (number_of RelationsOfNodes) refl))
+      (apart (map_number RelationsOfWays) (map_number RelationsOfNodes) refl))
       (subst (λ (p : Visit → ℕ). StopsAt (IsFine first.0 own) p lists at) pages stops))))
       (c.relist_map-in-Relation-2.ensures.touches.stops rest first.0 first.1);
   within = λ may lists only.
       let is : c.args.key.kind ≡ kinds.Relation =
       subst (λ (own : KeyOf). own.kind ≡ kinds.Relation) c.key.view_is (cc (c.in-Relation.is)) in
       let nodes : Option Object → Kind → Type 0 =
-      λ form kind. MayEach may (number_of RelationsOfNodes) (ids_for kinds.Relation (listed kinds.Node) kind form) in
+      λ form kind. MayEach may (map_number RelationsOfNodes) (ids_for kinds.Relation (listed kinds.Node) kind form) in
       let ways : Option Object → Kind → Type 0 =
-      λ form kind. MayEach may (number_of RelationsOfWays) (ids_for kinds.Relation (listed kinds.Way) kind form) in
+      λ form kind. MayEach may (map_number RelationsOfWays) (ids_for kinds.Relation (listed kinds.Way) kind form) in
       c.relist_map-in-Relation-2.ensures.touches.within may
       (subst (ways c.args.old.now) is lists.0.relations_of_ways, subst (ways c.args.new.now) is lists.1.relations_of_ways)
       (c.in_default.ensures.touches.within may

@@ -1,7 +1,7 @@
 -- The lists of both forms are turned in their order.
 use Rattle.std.proofs.Common.{rules, ◌≡◌, ◌∙◌, ◌++◌, ℕ, List, sym, ap, subst, true}
 use Rattle.osm_base.specs.values.Ids.{has}
-use Rattle.value_bytes.specs.StoreMap.{number_of}
+use Rattle.value_bytes.specs.StoreMap.{map_number}
 use Rattle.store_maps.specs.Turns.{listed_by}
 use Rattle.back_index.specs.Calls.{page_at}
 use Rattle.back_index.specs.Listed.{ids_in}
@@ -16,7 +16,7 @@ use Rattle.back_index.proofs.relisting.relist_map.Goals as goal
 
 pub returns-in-Ok-clause-turns : goal.returns-in-Ok-clause-turns
 returns-in-Ok-clause-turns g c =
-    let which : ℕ = number_of c.args.map in
+    let which : ℕ = map_number c.args.map in
     let olds = c.in-Ok.forms.before in
     let news = c.in-Ok.forms.after in
     let old = listed_by (ids_in c.args.map) c.args.old.now in
@@ -57,7 +57,7 @@ returns-in-Ok-clause-touches g c =
           (ap (visits_at own_map olds news) all ∙ visits_same olds news old new c.in-Ok.ensures.before c.in-Ok.ensures.after own_map) stops)
           (touches.stops rest now owns);
       within = λ may lists only.
-          let allowed : ℕ → Type 0 = λ id. may (number_of own_map) id ≡ true in
+          let allowed : ℕ → Type 0 = λ id. may (map_number own_map) id ≡ true in
           let same : (id : ℕ) → has ids id ≡ has (olds ++ news) id =
           λ id. ap (λ (l : List ℕ). has l id) all ∙ has-in_order (olds ++ news) id in
           touches.within may (all_among allowed ids (olds ++ news) same

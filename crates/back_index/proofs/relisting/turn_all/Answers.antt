@@ -5,7 +5,7 @@ use Rattle.std.specs.FinMap as finite
 use Rattle.std.proofs.lemmas.List.{get_or_default, take_all, take_more}
 use Rattle.osm_base.specs.values.Ids.{has}
 use Rattle.bucket_store.specs.Image.{Has, Image}
-use Rattle.value_bytes.specs.StoreMap.{number_of}
+use Rattle.value_bytes.specs.StoreMap.{map_number}
 use Rattle.back_index.specs.Calls.{page_at}
 use Rattle.back_index.specs.Relisting.{CanTurn, TurnsAt, kept_list, turned}
 use Rattle.back_index.specs.Visits.{IsFine, Sets, StopsAt, visit_of}
@@ -26,8 +26,8 @@ loop-id-init g c = record {
   turns = λ rest now owns. (
     now,
     owns,
-    only_none (number_of c.args.map) now,
-    turns_none c.args.own c.args.old.now c.args.new.now (now.maps (number_of c.args.map)),
+    only_none (map_number c.args.map) now,
+    turns_none c.args.own c.args.old.now c.args.new.now (now.maps (map_number c.args.map)),
   );
   fine = λ rest now owns. tt;
 }
@@ -36,7 +36,7 @@ pub loop-id-preserved : goal.loop-id-preserved
 loop-id-preserved g c =
     let before = c.loop-id.buckets in
     let after = c.turn_list.new.buckets in
-    let which : ℕ = number_of c.args.map in
+    let which : ℕ = map_number c.args.map in
     let own = c.args.own in
     let old = c.args.old.now in
     let new = c.args.new.now in
@@ -91,7 +91,7 @@ returns-in-Err-clause-touches g c = record {
   answers = search rules;
   reads = search rules;
   stops = λ rest now owns.
-      let which : ℕ = number_of c.args.map in
+      let which : ℕ = map_number c.args.map in
       let own = c.args.own in
       let old = c.args.old.now in
       let new = c.args.new.now in
@@ -116,7 +116,7 @@ returns-in-Err-clause-touches g c = record {
       (bad.1 ∙ page_same c.args.buckets.now c.loop-id.buckets which id inv.answers.stays))
       c.in-Err.fault (c.in-Err.ensures.touches.stops rest was.0 was.1);
   within = λ may all only. c.in-Err.ensures.touches.within may
-      (at_place (λ (id : ℕ). may (number_of c.args.map) id ≡ true) c.args.ids.now c.loop-id.id-index 0 c.loop-id-test.true all)
+      (at_place (λ (id : ℕ). may (map_number c.args.map) id ≡ true) c.args.ids.now c.loop-id.id-index 0 c.loop-id-test.true all)
       (c.loop-id.invariant.within may all only);
 }
 
@@ -126,7 +126,7 @@ returns-clause-turns g c rest now owns =
       was.0,
       was.1,
       was.2,
-      subst (λ (l : List ℕ). TurnsAt c.args.own c.args.old.now c.args.new.now l (now.maps (number_of c.args.map))
-          (was.0.maps (number_of c.args.map)))
+      subst (λ (l : List ℕ). TurnsAt c.args.own c.args.old.now c.args.new.now l (now.maps (map_number c.args.map))
+          (was.0.maps (map_number c.args.map)))
           (take_all c.loop-id.id-index c.args.ids.now c.loop-id-test.false) was.3,
     )

@@ -7,7 +7,7 @@ use Rattle.bucket_store.specs.Image.{with_value}
 use Rattle.back_index.specs.Calls.{page_at, page_in}
 use Rattle.back_index.specs.Relisting.{IsUnread, kept_list, turned}
 use Rattle.back_index.specs.Visits.{IsFine, Refuses, Sets}
-use Rattle.value_bytes.specs.StoreMap.{number_of}
+use Rattle.value_bytes.specs.StoreMap.{map_number}
 use Rattle.back_index.proofs.Chained.{page_same, ready_after}
 use Rattle.back_index.proofs.Reading.{on_ok, reads_same, refuses_more, refuses_result, unread_not}
 use Rattle.back_index.proofs.Turning.{beq_apart, beq_same, kept_found, sets_none, sets_put, turned_none, turned_one, true_not}
@@ -20,7 +20,7 @@ returns-in-Err-clause-touches g c = record {
   answers = search rules;
   reads = search rules;
   stops = λ rest now owns.
-      let which : ℕ = number_of c.args.visit.map in
+      let which : ℕ = map_number c.args.visit.map in
       let found = finite.get (now.maps which) c.args.visit.id in
       refuses_more (λ at. IsUnread found × (at ≡ page_in c.args.buckets.now which c.args.visit.id))
       (λ at. (¬ IsFine now c.args.own c.args.visit) × (at ≡ page_at c.args.buckets.now c.args.visit))
@@ -35,7 +35,7 @@ returns-then-not-contains-clause-touches g c = record {
   reads = search rules;
   stops = λ rest now owns.
       let old = c.args.buckets.now in
-      let which : ℕ = number_of c.args.visit.map in
+      let which : ℕ = map_number c.args.visit.map in
       let id = c.args.visit.id in
       let own = c.args.own in
       let found = finite.get (now.maps which) id in
@@ -56,7 +56,7 @@ returns-then-not-contains-clause-touches g c = record {
 pub returns-then-visit-2-clause-turns : goal.returns-then-visit-2-clause-turns
 returns-then-visit-2-clause-turns g c rest now owns =
     let own = c.args.own in
-    let which : ℕ = number_of c.args.visit.map in
+    let which : ℕ = map_number c.args.visit.map in
     let id = c.args.visit.id in
     let found = finite.get (now.maps which) id in
     let listed : c.from_vec-ids.result ≡ c.in-Ok.ids =
@@ -80,7 +80,7 @@ returns-then-visit-2-clause-turns g c rest now owns =
 pub returns-clause-turns : goal.returns-clause-turns
 returns-clause-turns g c =
     let own = c.args.own in
-    let which : ℕ = number_of c.args.visit.map in
+    let which : ℕ = map_number c.args.visit.map in
     let id = c.args.visit.id in
     let was = c.args.visit.was in
     let is = c.args.visit.is in

@@ -18,7 +18,7 @@ lines-preserved c =
 
 pub returns : goal.returns
 returns c = record {
-  joined =
+  joined_lines =
       sym (append-nil c.lines.lines)
       ∙ ap (λ rest. c.lines.lines ++ rest) (sym (lines_by-none line_begun line_begun-Grows))
       ∙ ap (λ unused. c.lines.lines ++ lines_by line_begun unused) (sym c.in_default.ensures.first)

@@ -3,25 +3,25 @@ use Rattle.bucket_store.specs.Transaction.{bucket_at, chains_of}
 use Rattle.bucket_store.proofs.TypedLaws.{gets_refused, value_found, value_refused, value_unbrought}
 use Rattle.chain_store.specs.Chains.{first_of}
 use Rattle.row_store.specs.Rows.{rows_bytes, AreRows}
-use Rattle.value_bytes.specs.StoreMap.{number_of}
+use Rattle.value_bytes.specs.StoreMap.{map_number}
 use Rattle.row_store.proofs.calls.get_from.Goals as goal
 
 pub returns-in-Err-clause-value : goal.returns-in-Err-clause-value
 returns-in-Err-clause-value g c =
-    value_unbrought rows_bytes (AreRows c.args.style.now.tables) (number_of c.args.map) c.args.number c.args.buckets.now c.bring.new.self
+    value_unbrought rows_bytes (AreRows c.args.style.now.tables) (map_number c.args.map) c.args.number c.args.buckets.now c.bring.new.self
     c.in-Err.fault c.in-Err.ensures.brings
 
 pub returns-in-Ok-clause-value : goal.returns-in-Ok-clause-value
 returns-in-Ok-clause-value g c =
     value_found rows_bytes (AreRows c.args.style.now.tables)
-    (λ bytes. bytes.now) (number_of c.args.map) c.args.number c.args.buckets.now c.bring.new.self c.value.result c.in_default.ensures.brings
+    (λ bytes. bytes.now) (map_number c.args.map) c.args.number c.args.buckets.now c.bring.new.self c.value.result c.in_default.ensures.brings
     c.value.ensures.found c.in-Ok.found c.in-Ok.ensures.reads
 
 pub returns-in-Err-read-clause-answers : goal.returns-in-Err-read-clause-answers
 returns-in-Err-read-clause-answers g c =
     let done = c.in_default.ensures in
     gets_refused rows_bytes (AreRows c.args.style.now.tables)
-    (λ bytes. bytes.now) (number_of c.args.map) c.args.number c.args.buckets.now c.bring.new.self c.value.result done.brings
+    (λ bytes. bytes.now) (map_number c.args.map) c.args.number c.args.buckets.now c.bring.new.self c.value.result done.brings
     done.touches.stays c.value.ensures.value c.in-Err-read.fault c.in-Err-read.ensures.reads c.refuse_value.result
     c.refuse_value.ensures.refusal
 
@@ -29,7 +29,7 @@ pub returns-in-Err-read-clause-value : goal.returns-in-Err-read-clause-value
 returns-in-Err-read-clause-value g c =
     let refused = c.refuse_value.ensures in
     value_refused rows_bytes (AreRows c.args.style.now.tables)
-    (λ bytes. bytes.now) (number_of c.args.map) c.args.number c.args.buckets.now c.bring.new.self c.value.result c.in_default.ensures.brings
+    (λ bytes. bytes.now) (map_number c.args.map) c.args.number c.args.buckets.now c.bring.new.self c.value.result c.in_default.ensures.brings
     c.refuse_value.new.buckets refused.chains refused.cached c.value.ensures.found c.in-Err-read.fault c.in-Err-read.ensures.reads
-    c.refuse_value.result (first_of (chains_of c.bring.new.self) (bucket_at c.bring.new.self (number_of c.args.map) c.args.number))
+    c.refuse_value.result (first_of (chains_of c.bring.new.self) (bucket_at c.bring.new.self (map_number c.args.map) c.args.number))
     refused.refusal

@@ -3,12 +3,12 @@ use Rattle.std.proofs.Common.{◌≡◌, ℕ, List, Ok, Err, subst}
 use Rattle.row_store.specs.Clearing.{TakesOut}
 use Rattle.row_store.specs.Loading.{Among}
 use Rattle.row_store.proofs.ClearLaws.{bucket_out}
-use Rattle.value_bytes.specs.StoreMap.{number_of}
+use Rattle.value_bytes.specs.StoreMap.{map_number}
 use Rattle.row_store.proofs.clearing.clear_bucket.Goals as goal
 
 pub returns-in-Ok-remove_all : goal.returns-in-Ok-remove_all
 returns-in-Ok-remove_all g c =
-    let which = number_of c.args.map in
+    let which = map_number c.args.map in
     let mid = c.records.new.self in
     let new = c.remove_all.new.buckets in
     let same : c.as_slice.result.now ≡ c.in-Ok.records.items = cc (c.as_slice.ensures.value) in
@@ -20,7 +20,7 @@ returns-in-Ok-remove_all g c =
 
 pub returns : goal.returns
 returns g c =
-    let which = number_of c.args.map in
+    let which = map_number c.args.map in
     let mid = c.records.new.self in
     let new = c.remove_all.new.buckets in
     let same : c.as_slice.result.now ≡ c.in-Ok.records.items = cc (c.as_slice.ensures.value) in

@@ -4,15 +4,15 @@ use Rattle.chain_store.specs.declared.root.Root.{Root}
 use Rattle.row_store.specs.Loading.{Among}
 use Rattle.row_store.proofs.ClearLaws.{err_then, key_refused, key_taken, took_none, took_then}
 use Rattle.row_store.proofs.LoadLaws.{among_more}
-use Rattle.value_bytes.specs.StoreMap.{number_of}
+use Rattle.value_bytes.specs.StoreMap.{map_number}
 use Rattle.row_store.proofs.clearing.remove_all.Goals as goal
 
 pub loop-key-init : goal.loop-key-init
-loop-key-init g c = took_none (number_of c.args.map) c.args.buckets.now c.requires.ready.going
+loop-key-init g c = took_none (map_number c.args.map) c.args.buckets.now c.requires.ready.going
 
 pub returns-in-Err : goal.returns-in-Err
 returns-in-Err g c =
-    let which = number_of c.args.map in
+    let which = map_number c.args.map in
     let records = c.args.records.now in
     let one = c.loop-key-item.result in
     let mid = c.loop-key.buckets in
@@ -26,7 +26,7 @@ returns-in-Err g c =
 
 pub loop-key-preserved : goal.loop-key-preserved
 loop-key-preserved g c =
-    let which = number_of c.args.map in
+    let which = map_number c.args.map in
     let records = c.args.records.now in
     let place = c.loop-key.key-index in
     let one = c.loop-key-item.result in

@@ -8,14 +8,14 @@ use Rattle.row_store.specs.Loading.{Among, AreRowsOf}
 use Rattle.row_store.proofs.LoadLaws.{bucket_fills, fills_none, records_told}
 use Rattle.row_store.proofs.LookLaws.{memory_sound}
 use Rattle.row_store.proofs.SpelledLaws.{bucket_is}
-use Rattle.value_bytes.specs.StoreMap.{number_of}
-use Rattle.value_bytes.proofs.MapNumbers.{number_of-below}
+use Rattle.value_bytes.specs.StoreMap.{map_number}
+use Rattle.value_bytes.proofs.MapNumbers.{map_number-below}
 use Rattle.row_store.proofs.loading.add_bucket.Goals as goal
 
 pub returns-then-is_bare-clause-filled : goal.returns-then-is_bare-clause-filled
 returns-then-is_bare-clause-filled g c rest now rows has told =
-    let which = number_of c.args.map in
-    let are = bare_records rest now c.args.buckets.now which c.args.bucket (number_of-below c.args.map) c.requires.ready.some
+    let which = map_number c.args.map in
+    let are = bare_records rest now c.args.buckets.now which c.args.bucket (map_number-below c.args.map) c.requires.ready.some
     (c.is_bare.ensures.none c.if-is_bare.true) has in
     bucket_fills c.args.style.now.tables c.args.wanted which rows now (c.args.bucket % now.root.buckets) [] are
     (g.F.Filled.tables c.args.tables.now) (g.F.Filled.tables c.args.tables.now)
@@ -23,8 +23,8 @@ returns-then-is_bare-clause-filled g c rest now rows has told =
 
 pub returns-then-is_bare-clause-spelled : goal.returns-then-is_bare-clause-spelled
 returns-then-is_bare-clause-spelled g c rest now has =
-    let which = number_of c.args.map in
-    let are = bare_records rest now c.args.buckets.now which c.args.bucket (number_of-below c.args.map) c.requires.ready.some
+    let which = map_number c.args.map in
+    let are = bare_records rest now c.args.buckets.now which c.args.bucket (map_number-below c.args.map) c.requires.ready.some
     (c.is_bare.ensures.none c.if-is_bare.true) has in
     bucket_is (λ (one : ℕ × List ℕ). AreRowsOf c.args.style.now.tables which one.0 one.1) which now (c.args.bucket % now.root.buckets) []
     are tt
@@ -55,7 +55,7 @@ returns-in-None-clause-sound g c rest now rows has told =
 
 pub returns-in-Ok-clause-filled : goal.returns-in-Ok-clause-filled
 returns-in-Ok-clause-filled g c rest now rows has told =
-    let which = number_of c.args.map in
+    let which = map_number c.args.map in
     let bucket = c.args.bucket % now.root.buckets in
     let records = c.in-Some.records.now in
     let are = c.in-Some.ensures.found rest now (c.in_default.ensures.brings.keeps.has refl rest now has) in
@@ -65,14 +65,14 @@ returns-in-Ok-clause-filled g c rest now rows has told =
 
 pub returns-in-Ok-clause-spelled : goal.returns-in-Ok-clause-spelled
 returns-in-Ok-clause-spelled g c rest now has =
-    let which = number_of c.args.map in
+    let which = map_number c.args.map in
     bucket_is (λ (one : ℕ × List ℕ). AreRowsOf c.args.style.now.tables which one.0 one.1) which now (c.args.bucket % now.root.buckets)
     c.in-Some.records.now (c.in-Some.ensures.found rest now (c.in_default.ensures.brings.keeps.has refl rest now has))
     c.in-Ok.ensures.spelled
 
 pub returns-in-Err-read-clause-sound : goal.returns-in-Err-read-clause-sound
 returns-in-Err-read-clause-sound g c rest now rows has told =
-    let which = number_of c.args.map in
+    let which = map_number c.args.map in
     let mid = c.bring.new.self in
     let records = c.in-Some.records.now in
     let are = c.in-Some.ensures.found rest now (c.in_default.ensures.brings.keeps.has refl rest now has) in

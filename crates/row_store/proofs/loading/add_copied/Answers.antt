@@ -7,7 +7,7 @@ use Rattle.row_store.specs.Loading.{Among, AreRowsOf, Fills, IsTold}
 use Rattle.row_store.proofs.LoadLaws.{bucket_fills, records_told}
 use Rattle.row_store.proofs.LookLaws.{memory_sound, sound_err}
 use Rattle.row_store.proofs.SpelledLaws.{bucket_is}
-use Rattle.value_bytes.specs.StoreMap.{number_of}
+use Rattle.value_bytes.specs.StoreMap.{map_number}
 use Rattle.row_store.proofs.loading.add_copied.Goals as goal
 
 pub returns-in-Err-clause-sound : goal.returns-in-Err-clause-sound
@@ -21,13 +21,13 @@ returns-in-Ok-add_records-clause-filled g c rest now rows has told =
     let bucket = c.args.bucket % now.root.buckets in
     let are = c.in-Ok.ensures.records.found rest now has in
     let same : c.as_slice.result.now ≡ records = cc (c.as_slice.ensures.value) in
-    let each = records_told definitions c.args.wanted (number_of c.args.map) rows now bucket records are told in
+    let each = records_told definitions c.args.wanted (map_number c.args.map) rows now bucket records are told in
     let filled = c.in-Ok-add_records.ensures.filled rows
-    (subst (λ (l : List (ℕ × List ℕ)). AllByRecursion (λ one. IsTold definitions c.args.wanted (number_of c.args.map) rows one.0 one.1) l)
+    (subst (λ (l : List (ℕ × List ℕ)). AllByRecursion (λ one. IsTold definitions c.args.wanted (map_number c.args.map) rows one.0 one.1) l)
     (sym same) each) in
-    bucket_fills definitions c.args.wanted (number_of c.args.map) rows now bucket records are (g.F.Filled.tables c.args.tables.now)
+    bucket_fills definitions c.args.wanted (map_number c.args.map) rows now bucket records are (g.F.Filled.tables c.args.tables.now)
     (g.F.Filled.tables c.add_records.new.tables)
-    (subst (λ (l : List (ℕ × List ℕ)). Fills (number_of c.args.map) rows (Among l) (g.F.Filled.tables c.args.tables.now)
+    (subst (λ (l : List (ℕ × List ℕ)). Fills (map_number c.args.map) rows (Among l) (g.F.Filled.tables c.args.tables.now)
     (g.F.Filled.tables c.add_records.new.tables)) same filled)
 
 pub returns-clause-sound : goal.returns-clause-sound
@@ -37,18 +37,18 @@ returns-clause-sound g c rest now rows has told =
     let bucket = c.args.bucket % now.root.buckets in
     let are = c.in-Ok.ensures.records.found rest now has in
     let same : c.as_slice.result.now ≡ records = cc (c.as_slice.ensures.value) in
-    let each = records_told definitions c.args.wanted (number_of c.args.map) rows now bucket records are told in
+    let each = records_told definitions c.args.wanted (map_number c.args.map) rows now bucket records are told in
     let memory = c.in-Err-add_records.ensures.sound rows
-    (subst (λ (l : List (ℕ × List ℕ)). AllByRecursion (λ one. IsTold definitions c.args.wanted (number_of c.args.map) rows one.0 one.1) l)
+    (subst (λ (l : List (ℕ × List ℕ)). AllByRecursion (λ one. IsTold definitions c.args.wanted (map_number c.args.map) rows one.0 one.1) l)
     (sym same) each) in
     memory_sound c.in-Err-add_records.fault (first_of (chains_of c.records.new.self)
-    (bucket_at c.records.new.self (number_of c.args.map) c.args.bucket))
+    (bucket_at c.records.new.self (map_number c.args.map) c.args.bucket))
     c.refuse_value.result c.refuse_value.ensures.refusal memory
 
 pub returns-in-Ok-add_records-clause-spelled : goal.returns-in-Ok-add_records-clause-spelled
 returns-in-Ok-add_records-clause-spelled g c rest now has number bytes there mine =
     let records = c.in-Ok.records.items in
-    let Is = λ (one : ℕ × List ℕ). AreRowsOf c.args.style.now.tables (number_of c.args.map) one.0 one.1 in
+    let Is = λ (one : ℕ × List ℕ). AreRowsOf c.args.style.now.tables (map_number c.args.map) one.0 one.1 in
     let same : c.as_slice.result.now ≡ records = cc (c.as_slice.ensures.value) in
-    bucket_is Is (number_of c.args.map) now (c.args.bucket % now.root.buckets) records (c.in-Ok.ensures.records.found rest now has)
+    bucket_is Is (map_number c.args.map) now (c.args.bucket % now.root.buckets) records (c.in-Ok.ensures.records.found rest now has)
     (subst (λ (l : List (ℕ × List ℕ)). AllByRecursion Is l) same c.in-Ok-add_records.ensures.spelled) number bytes there mine

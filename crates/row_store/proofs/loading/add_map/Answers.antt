@@ -8,7 +8,7 @@ use Rattle.bucket_store.specs.Transaction.{chains_of}
 use Rattle.bucket_store.proofs.Holding.{looks_then}
 use Rattle.row_store.proofs.LoadLaws.{bucket_split, fills_fewer, fills_then}
 use Rattle.row_store.proofs.LookLaws.{read_then, still_whole}
-use Rattle.value_bytes.specs.StoreMap.{number_of}
+use Rattle.value_bytes.specs.StoreMap.{map_number}
 use Rattle.row_store.proofs.loading.add_map.Goals as goal
 
 pub returns-in-Err-clause-sound : goal.returns-in-Err-clause-sound
@@ -31,10 +31,10 @@ loop-bucket-preserved g c =
       has = λ rest now had. done.looks.has rest now (before.has rest now had);
       filled = λ rest now rows had told.
           let count : c.root-count.result.buckets ≡ now.root.buckets = ap (λ (r : Root). r.buckets) (c.root-count.ensures ∙ had.root) in
-          fills_then (number_of c.args.map) rows (λ n. IsSome (map.get (now.maps (number_of c.args.map)) n)
+          fills_then (map_number c.args.map) rows (λ n. IsSome (map.get (now.maps (map_number c.args.map)) n)
           × (n % now.root.buckets < bucket))
-          (λ n. IsSome (map.get (now.maps (number_of c.args.map)) n) × (n % now.root.buckets ≡ bucket % now.root.buckets))
-          (λ n. IsSome (map.get (now.maps (number_of c.args.map)) n) × (n % now.root.buckets < bucket + 1))
+          (λ n. IsSome (map.get (now.maps (map_number c.args.map)) n) × (n % now.root.buckets ≡ bucket % now.root.buckets))
+          (λ n. IsSome (map.get (now.maps (map_number c.args.map)) n) × (n % now.root.buckets < bucket + 1))
           (g.F.Filled.tables c.args.tables.now) (g.F.Filled.tables c.loop-bucket.tables)
           (g.F.Filled.tables c.add_bucket.new.tables) (before.filled rest now rows had told)
           (done.filled rest now rows (before.has rest now had) told)
@@ -55,8 +55,8 @@ returns-clause-filled g c rest now rows has told =
     let bucket = c.loop-bucket.bucket in
     let count : c.root-count.result.buckets ≡ now.root.buckets = ap (λ (r : Root). r.buckets) (c.root-count.ensures ∙ has.root) in
     let own : bucket_count (chains_of c.args.buckets.now) ≡ now.root.buckets = ap (λ (r : Root). r.buckets) has.root in
-    fills_fewer (number_of c.args.map) rows (λ n. IsSome (map.get (now.maps (number_of c.args.map)) n))
-    (λ n. IsSome (map.get (now.maps (number_of c.args.map)) n) × (n % now.root.buckets < bucket))
+    fills_fewer (map_number c.args.map) rows (λ n. IsSome (map.get (now.maps (map_number c.args.map)) n))
+    (λ n. IsSome (map.get (now.maps (map_number c.args.map)) n) × (n % now.root.buckets < bucket))
     (g.F.Filled.tables c.args.tables.now) (g.F.Filled.tables c.loop-bucket.tables) (c.loop-bucket.invariant.filled rest now rows has told)
     (λ n some.
     let low : n % now.root.buckets < now.root.buckets = mod-lt n (omega (arith, c.requires.ready.some, own)) in

@@ -2,7 +2,7 @@
 use Rattle.std.specs.Option.{IsSome}
 use Rattle.std.specs.FinMap as map
 use Rattle.row_store.proofs.LoadLaws.{fills_before, fills_beside}
-use Rattle.value_bytes.specs.StoreMap.{number_of}
+use Rattle.value_bytes.specs.StoreMap.{map_number}
 use Rattle.value_bytes.specs.declared.store_map.StoreMap.TheVariants.{NodeRows, OtherRows}
 use Rattle.row_store.proofs.loading.add_maps.Goals as goal
 
@@ -11,16 +11,16 @@ returns-in-Err-clause-sound g c rest now rows has nodes others = c.in-Err.ensure
 
 pub returns-in-Ok-clause-nodes : goal.returns-in-Ok-clause-nodes
 returns-in-Ok-clause-nodes g c rest now rows has nodes others =
-    fills_beside (number_of NodeRows) (number_of OtherRows) rows (λ n. IsSome (map.get (now.maps (number_of NodeRows)) n))
-    (λ n. IsSome (map.get (now.maps (number_of OtherRows)) n))
+    fills_beside (map_number NodeRows) (map_number OtherRows) rows (λ n. IsSome (map.get (now.maps (map_number NodeRows)) n))
+    (λ n. IsSome (map.get (now.maps (map_number OtherRows)) n))
     (g.F.Filled.tables c.args.tables.now)
     (g.F.Filled.tables c.add_map.new.tables) (g.F.Filled.tables c.add_map-2.new.tables) (c.in_default.ensures.filled rest now rows has nodes)
     (c.in-Ok.ensures.filled rest now rows (c.in_default.ensures.looks.has rest now has) others)
 
 pub returns-in-Ok-clause-others : goal.returns-in-Ok-clause-others
 returns-in-Ok-clause-others g c rest now rows has nodes others =
-    fills_before (number_of NodeRows) (number_of OtherRows) rows (λ n. IsSome (map.get (now.maps (number_of NodeRows)) n))
-    (λ n. IsSome (map.get (now.maps (number_of OtherRows)) n))
+    fills_before (map_number NodeRows) (map_number OtherRows) rows (λ n. IsSome (map.get (now.maps (map_number NodeRows)) n))
+    (λ n. IsSome (map.get (now.maps (map_number OtherRows)) n))
     (g.F.Filled.tables c.args.tables.now)
     (g.F.Filled.tables c.add_map.new.tables) (g.F.Filled.tables c.add_map-2.new.tables) (c.in_default.ensures.filled rest now rows has nodes)
     (c.in-Ok.ensures.filled rest now rows (c.in_default.ensures.looks.has rest now has) others)

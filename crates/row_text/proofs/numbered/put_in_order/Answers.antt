@@ -6,8 +6,8 @@ use Rattle.row_text.proofs.TableRows.{by_number_total, by_number-IsAntisymmetric
 use Rattle.std.proofs.lemmas.List.Sorted.{IsPermutation-map, IsPermutation-trans}
 use Rattle.row_text.proofs.numbered.put_in_order.Goals as goal
 
-pub settle-requires : goal.settle-requires
-settle-requires c =
+pub sort_unless_rising-requires : goal.sort_unless_rising-requires
+sort_unless_rising-requires c =
     let order = by_number c.args.of_areas in
     let total = by_number_total c.args.of_areas in
     let same = by_number-IsAntisymmetric c.args.of_areas in
@@ -20,9 +20,9 @@ returns c =
     let order = by_number c.args.of_areas in
     let total = by_number_total c.args.of_areas in
     let same = by_number-IsAntisymmetric c.args.of_areas in
-    let moved = IsPermutation-trans c.args.rows.now c.turn_relations.new.rows c.settle.new.rows c.turn_relations.ensures.permutation
-    c.settle.ensures.permutation in
+    let moved = IsPermutation-trans c.args.rows.now c.turn_relations.new.rows c.sort_unless_rising.new.rows c.turn_relations.ensures.permutation
+    c.sort_unless_rising.ensures.permutation in
     record {
-      order = in_order order total same _ _ (IsPermutation-map seen c.args.rows.now c.settle.new.rows moved)
-          (once-rising order total same key_cmp key_cmp_total _ c.requires) c.settle.ensures.rising;
+      order = in_order order total same _ _ (IsPermutation-map seen c.args.rows.now c.sort_unless_rising.new.rows moved)
+          (once-rising order total same key_cmp key_cmp_total _ c.requires) c.sort_unless_rising.ensures.rising;
     }

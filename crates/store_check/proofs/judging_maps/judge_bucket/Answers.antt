@@ -1,6 +1,6 @@
 -- The records of a bucket are all of it.
 use Rattle.std.proofs.Common.{◌≡◌, ◌%◌, ℕ, List, true, sym, subst}
-use Rattle.value_bytes.specs.StoreMap.{number_of}
+use Rattle.value_bytes.specs.StoreMap.{map_number}
 use Rattle.value_bytes.specs.declared.store_map.StoreMap.{StoreMap}
 use Rattle.bucket_store.specs.Image.{IsBucketOf}
 use Rattle.store_check.specs.Judging.{map_for}
@@ -18,18 +18,18 @@ pub returns-in-Ok-judge_all-clause-takes : goal.returns-in-Ok-judge_all-clause-t
 returns-in-Ok-judge_all-clause-takes g c rest has =
     let kind = c.args.kind in
     let bucket = c.args.bucket % rest.root.buckets in
-    let are = subst (λ (l : List (ℕ × List ℕ)). IsBucketOf rest (number_of (map_for kind)) bucket l) (sym (cc (c.as_slice.ensures.value)))
-    (subst (λ (map : StoreMap). IsBucketOf rest (number_of map) bucket c.in-Ok.records.items) c.map_for.ensures
+    let are = subst (λ (l : List (ℕ × List ℕ)). IsBucketOf rest (map_number (map_for kind)) bucket l) (sym (cc (c.as_slice.ensures.value)))
+    (subst (λ (map : StoreMap). IsBucketOf rest (map_number map) bucket c.in-Ok.records.items) c.map_for.ensures
     (c.in-Ok.ensures.found.so rest has)) in
     bucket_taken c.args.asked rest kind bucket c.as_slice.result.now are c.args.held.now c.judge_all.new.held
-    (c.in-Ok-judge_all.ensures.takes rest (records_in rest (number_of (map_for kind)) bucket c.as_slice.result.now are))
+    (c.in-Ok-judge_all.ensures.takes rest (records_in rest (map_number (map_for kind)) bucket c.as_slice.result.now are))
 
 pub returns-in-Ok-judge_all-clause-least : goal.returns-in-Ok-judge_all-clause-least
 returns-in-Ok-judge_all-clause-least g c = found_all (saw_both (saw_it c.in-Ok.ensures.found) c.forget.ensures.saw) (λ rest has was_seen before.
     let kind = c.args.kind in
     let bucket = c.args.bucket % rest.root.buckets in
-    let are = subst (λ (l : List (ℕ × List ℕ)). IsBucketOf rest (number_of (map_for kind)) bucket l) (sym (cc (c.as_slice.ensures.value)))
-    (subst (λ (map : StoreMap). IsBucketOf rest (number_of map) bucket c.in-Ok.records.items) c.map_for.ensures
+    let are = subst (λ (l : List (ℕ × List ℕ)). IsBucketOf rest (map_number (map_for kind)) bucket l) (sym (cc (c.as_slice.ensures.value)))
+    (subst (λ (map : StoreMap). IsBucketOf rest (map_number map) bucket c.in-Ok.records.items) c.map_for.ensures
     (c.in-Ok.ensures.found.so rest has)) in
     bucket_seen c.args.asked rest kind bucket c.as_slice.result.now are (λ key. was_seen key ≡ true) c.judge_all.new.least
-    (c.in-Ok-judge_all.ensures.least rest (records_in rest (number_of (map_for kind)) bucket c.as_slice.result.now are) was_seen before))
+    (c.in-Ok-judge_all.ensures.least rest (records_in rest (map_number (map_for kind)) bucket c.as_slice.result.now are) was_seen before))

@@ -1,7 +1,7 @@
 -- One more id that is named has a list or not.
 use Rattle.std.proofs.Common.{◌≡◌, ◌⊎◌, ◌+◌, ◌∙◌, ℕ, List, Option, true, take, get_or, sym, subst}
 use Rattle.std.proofs.lemmas.List.{get_or_default, take_all}
-use Rattle.value_bytes.specs.StoreMap.{number_of}
+use Rattle.value_bytes.specs.StoreMap.{map_number}
 use Rattle.back_index.specs.Filling.{mentions_tell}
 use Rattle.back_index.specs.declared.mentions.Mention.{Mention}
 use Rattle.store_check.specs.Lists.{IsLacking}
@@ -28,7 +28,7 @@ loop-mention-preserved g c =
     record {
       saw = saw_then before.saw done;
       least = λ rest had.
-          let kept = rest.maps (number_of c.args.map) in
+          let kept = rest.maps (map_number c.args.map) in
           let Is = λ (id : ℕ). ¬ IsLacking (mentions_tell mentions) kept id in
           let found = done.so rest (before.saw.has rest had) in
           let more = least_more Is (λ id. is_named (take at mentions) id ≡ true) c.loop-mention.least own.id c.in-Ok.is_kept
@@ -48,7 +48,7 @@ returns g c =
     record {
       least = found_all read.saw (λ rest has.
           let mentions : List Mention = c.args.mentions.now.all.now in
-          let kept = rest.maps (number_of c.args.map) in
+          let kept = rest.maps (map_number c.args.map) in
           let Is = λ (id : ℕ). ¬ IsLacking (mentions_tell mentions) kept id in
           let all : take c.loop-mention.mention-index mentions ≡ mentions =
           take_all c.loop-mention.mention-index mentions c.loop-mention-test.false in

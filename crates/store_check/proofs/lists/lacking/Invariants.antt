@@ -1,6 +1,6 @@
 use Rattle.std.proofs.Common.{◌≡◌, true, take}
 use Rattle.bucket_store.specs.Image.{Has, Image}
-use Rattle.value_bytes.specs.StoreMap.{number_of}
+use Rattle.value_bytes.specs.StoreMap.{map_number}
 use Rattle.back_index.specs.Filling.{mentions_tell}
 use Rattle.store_check.specs.Lists.{IsLacking}
 use Rattle.store_check.specs.Wrong.{IsLeastOf}
@@ -14,5 +14,5 @@ invariant-loop-mention g l = record {
   saw : Saw l.initial.reading l.reading;
   least : (rest : Image) → Has rest rest l.initial.reading.buckets.now
       → IsLeastOf (λ id. is_named (take l.mention-index l.mentions.all.now) id ≡ true)
-      (λ id. ¬ IsLacking (mentions_tell l.mentions.all.now) (rest.maps (number_of l.map)) id) l.least;
+      (λ id. ¬ IsLacking (mentions_tell l.mentions.all.now) (rest.maps (map_number l.map)) id) l.least;
 }

@@ -3,7 +3,7 @@ use Rattle.std.proofs.Common.{◌≡◌, ◌%◌, ℕ, List, Some, sym, subst}
 use Rattle.std.specs.FinMap as finite
 use Rattle.std.specs.List.{AllByRecursion}
 use Rattle.std.specs.Option.{IsSome}
-use Rattle.value_bytes.specs.StoreMap.{number_of}
+use Rattle.value_bytes.specs.StoreMap.{map_number}
 use Rattle.row_store.specs.Loading.{Among}
 use Rattle.back_index.specs.Filling.{IsKeptAt, mentions_tell}
 use Rattle.store_check.specs.Wrong.{IsLeastOf}
@@ -21,7 +21,7 @@ returns g c = record { least = lacks_memory (saw_it c.in-Ok.ensures.found) }
 pub returns-in-Ok-wrong_among : goal.returns-in-Ok-wrong_among
 returns-in-Ok-wrong_among g c = record {
   least = finds_ok c.in-Ok.ensures.found (λ rest has are.
-      let which : ℕ = number_of c.args.map in
+      let which : ℕ = map_number c.args.map in
       let kept = rest.maps which in
       let records : List (ℕ × List ℕ) = c.in-Ok.records.items in
       let bucket : ℕ = c.args.bucket % rest.root.buckets in

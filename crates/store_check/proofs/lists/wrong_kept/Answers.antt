@@ -5,7 +5,7 @@ use Rattle.std.specs.FinMap as finite
 use Rattle.chain_store.specs.declared.root.Root.{Root}
 use Rattle.bucket_store.specs.Buckets.{bucket_count}
 use Rattle.bucket_store.specs.Transaction.{chains_of}
-use Rattle.value_bytes.specs.StoreMap.{number_of}
+use Rattle.value_bytes.specs.StoreMap.{map_number}
 use Rattle.row_store.proofs.LoadLaws.{bucket_split}
 use Rattle.back_index.specs.Filling.{IsKeptAt, mentions_tell}
 use Rattle.store_check.specs.Wrong.{IsLeastOf}
@@ -28,7 +28,7 @@ loop-bucket-preserved g c =
       saw = saw_then before.saw done;
       least = λ rest had.
           let count : c.bucket_count-count.result ≡ rest.root.buckets = c.bucket_count-count.ensures ∙ ap (λ (r : Root). r.buckets) had.root in
-          let kept = rest.maps (number_of c.args.map) in
+          let kept = rest.maps (map_number c.args.map) in
           let Is = IsKeptAt (mentions_tell c.args.mentions.now.all.now) kept in
           subst (λ (l : Option ℕ). IsLeastOf (λ n. IsSome (finite.get kept n) × (n % rest.root.buckets < bucket + 1)) Is l)
           (sym c.lesser_of-found.ensures.lesser)
@@ -48,7 +48,7 @@ returns g c =
       least = found_all read.saw (λ rest has.
           let count : c.bucket_count-count.result ≡ rest.root.buckets = c.bucket_count-count.ensures ∙ ap (λ (r : Root). r.buckets) has.root in
           let own : bucket_count (chains_of c.args.reading.now.buckets.now) ≡ rest.root.buckets = ap (λ (r : Root). r.buckets) has.root in
-          let kept = rest.maps (number_of c.args.map) in
+          let kept = rest.maps (map_number c.args.map) in
           least_fewer (IsKeptAt (mentions_tell c.args.mentions.now.all.now) kept) (λ n. IsSome (finite.get kept n))
           (λ n. IsSome (finite.get kept n) × (n % rest.root.buckets < c.loop-bucket.bucket)) c.loop-bucket.found
           (λ n some.

@@ -1,7 +1,7 @@
 -- A record more was judged.
 use Rattle.std.proofs.Common.{◌≡◌, ◌+◌, inl, inr, ℕ, List, Some, take, sym, subst, arith}
 use Rattle.std.specs.FinMap as finite
-use Rattle.value_bytes.specs.StoreMap.{number_of}
+use Rattle.value_bytes.specs.StoreMap.{map_number}
 use Rattle.row_store.proofs.LoadLaws.{among_all, among_more}
 use Rattle.store_check.specs.Judged.{IsAmong, IsAsked, IsOne, rows_map}
 use Rattle.store_check.specs.Values.{objects_of}
@@ -22,9 +22,9 @@ loop-number-preserved g c =
     record {
       saw = saw_then before.saw done;
       sees = λ rest had nodes ways relations tells each.
-          let here = all_at (λ (own : ℕ × List ℕ). finite.get (rest.maps (number_of source)) own.0 ≡ Some own.1) records place one each
+          let here = all_at (λ (own : ℕ × List ℕ). finite.get (rest.maps (map_number source)) own.0 ≡ Some own.1) records place one each
           c.loop-number-test.true c.loop-number-item.is in
-          let told = subst (λ (bytes : List ℕ). finite.get (rest.maps (number_of source)) one.0 ≡ Some bytes) (sym c.as_slice.ensures.items)
+          let told = subst (λ (bytes : List ℕ). finite.get (rest.maps (map_number source)) one.0 ≡ Some bytes) (sym c.as_slice.ensures.items)
           here in
           sees_then (IsRightIn c.args.style.now rest nodes ways relations (rows_map source)) (IsAsked (objects_of nodes ways relations))
           (IsAmong source (take place records)) (IsOne source one.0) (IsAmong source (take (place + 1) records))

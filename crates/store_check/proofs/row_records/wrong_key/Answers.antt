@@ -1,7 +1,7 @@
 -- Of each map the key that its record asks for.
 use Rattle.std.proofs.Common.{◌≡◌, Some, None, sym, subst, ◌∙◌}
 use Rattle.std.specs.FinMap as finite
-use Rattle.value_bytes.specs.StoreMap.{number_of}
+use Rattle.value_bytes.specs.StoreMap.{map_number}
 use Rattle.value_bytes.specs.declared.store_map.StoreMap.{StoreMap}
 use Rattle.store_check.specs.Judged.{kind_kept}
 use Rattle.store_check.proofs.RowKeys.{object_found, object_is, rows_found}
@@ -22,7 +22,7 @@ returns-in-Ok g c = record {
       let same : kind_kept source ≡ Some kind = sym c.kind_of.ensures.kind ∙ c.in-Some.is in
       object_found c.args.style.now rest nodes ways relations c.args.number c.in-Ok.found source kind same
       (own nodes ways relations tells
-      (subst (λ (own : StoreMap). finite.get (rest.maps (number_of own)) c.args.number ≡ Some c.args.bytes.now) (sym (object_is source kind same))
+      (subst (λ (own : StoreMap). finite.get (rest.maps (map_number own)) c.args.number ≡ Some c.args.bytes.now) (sym (object_is source kind same))
       there)));
 }
 

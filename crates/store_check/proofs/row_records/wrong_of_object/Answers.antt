@@ -1,7 +1,7 @@
 use Rattle.std.proofs.Common.{◌≡◌, Some, subst, arith}
 use Rattle.std.specs.FinMap as finite
 use Rattle.osm_base.specs.values.Key.{KeyOf}
-use Rattle.value_bytes.specs.StoreMap.{number_of}
+use Rattle.value_bytes.specs.StoreMap.{map_number}
 use Rattle.store_maps.specs.Asked.{object_map, row_key, row_map}
 use Rattle.store_check.specs.Judged.{IsFound}
 use Rattle.store_check.specs.Wrong.{IsRightIn}
@@ -31,7 +31,7 @@ returns-in-Err g c = record { found = finds_err c.in-Err.ensures.found }
 pub returns-in-Ok : goal.returns-in-Ok
 returns-in-Ok g c = record {
   found = finds_ok c.in-Ok.ensures.found (λ rest had own nodes ways relations tells there.
-      subst (λ (key : KeyOf). finite.get (rest.maps (number_of (object_map key.kind))) key.id ≡ Some c.args.bytes.now
+      subst (λ (key : KeyOf). finite.get (rest.maps (map_number (object_map key.kind))) key.id ≡ Some c.args.bytes.now
       → IsFound (IsRightIn c.args.style.now rest nodes ways relations (row_map key.kind)) (Unit {0}) (row_key key.kind key.id) c.in-Ok.found)
       c.new.ensures.fields (own nodes ways relations tells) there);
 }

@@ -2,7 +2,7 @@
 use Rattle.std.proofs.Common.{◌≡◌, ◌<◌, ◌+◌, ◌%◌, ◌∙◌, None, sym, ap, subst, arith, mod-lt}
 use Rattle.std.specs.FinMap as finite
 use Rattle.std.specs.Prelude.{IsSome}
-use Rattle.value_bytes.specs.StoreMap.{number_of}
+use Rattle.value_bytes.specs.StoreMap.{map_number}
 use Rattle.chain_store.specs.declared.root.Root.{Root}
 use Rattle.bucket_store.specs.Buckets.{bucket_count}
 use Rattle.bucket_store.specs.Transaction.{chains_of}
@@ -42,7 +42,7 @@ returns g c =
           let tells : Tells c.args.held.now rest nodes ways relations = record { read = read; held = held; ids = ids } in
           let all = all_seen c.args.style.now rest nodes ways relations c.args.held.now tells c.loop-bucket.wrong c.args.map c.requires.rows
           (sees_fewer (IsRightIn c.args.style.now rest nodes ways relations c.args.map) (IsAsked (objects_of nodes ways relations))
-          (λ source number. GoesWith c.args.map source × IsSome (finite.get (rest.maps (number_of source)) number)) (IsBefore c.args.map rest bucket) None c.loop-bucket.wrong
+          (λ source number. GoesWith c.args.map source × IsSome (finite.get (rest.maps (map_number source)) number)) (IsBefore c.args.map rest bucket) None c.loop-bucket.wrong
           (λ source number part.
           let low : number % rest.root.buckets < rest.root.buckets = mod-lt number (omega (arith, c.args.reading.now.unchanged.ready.some, own)) in
           (part.0, part.1, omega (arith, low, c.loop-bucket-test.false, count)))

@@ -2,7 +2,7 @@
 use Rattle.std.proofs.Common.{◌≡◌, ◌%◌, ℕ, List, Some, sym, subst}
 use Rattle.std.specs.FinMap as finite
 use Rattle.std.specs.List.{AllByRecursion}
-use Rattle.value_bytes.specs.StoreMap.{number_of}
+use Rattle.value_bytes.specs.StoreMap.{map_number}
 use Rattle.store_check.specs.Judged.{IsAmong, IsAsked, IsOfBucket, SeesRows, rows_map}
 use Rattle.store_check.specs.Values.{objects_of}
 use Rattle.store_check.specs.Wrong.{IsRightIn}
@@ -17,10 +17,10 @@ returns-in-Ok-judge_records g c = record {
       let source = c.args.source.map in
       let records = c.in-Ok.records.items in
       let same : c.as_slice.result.now ≡ records = cc (c.as_slice.ensures.value) in
-      let Is = λ (one : ℕ × List ℕ). finite.get (rest.maps (number_of source)) one.0 ≡ Some one.1 in
+      let Is = λ (one : ℕ × List ℕ). finite.get (rest.maps (map_number source)) one.0 ≡ Some one.1 in
       let sees = own nodes ways relations tells
       (subst (λ (l : List (ℕ × List ℕ)). AllByRecursion Is l) (sym same)
-      (records_in rest (number_of source) (c.args.bucket % rest.root.buckets) records are)) in
+      (records_in rest (map_number source) (c.args.bucket % rest.root.buckets) records are)) in
       sees_fewer (IsRightIn c.args.style.now rest nodes ways relations (rows_map source)) (IsAsked (objects_of nodes ways relations))
       (IsOfBucket source rest c.args.bucket) (IsAmong source records) c.args.wrong.now c.judge_records.new.wrong
       (bucket_among source rest c.args.bucket records are)

@@ -3,7 +3,7 @@ use Rattle.std.proofs.Common.{◌+◌, ◌-◌, ◌∷◌, ◌∙◌, [], List, 
 use Rattle.std.specs.List.{range_with_len}
 use Rattle.chain_store.specs.declared.root.Root.{Root}
 use Rattle.bucket_store.specs.Image.{bucket_chain}
-use Rattle.value_bytes.specs.StoreMap.{number_of}
+use Rattle.value_bytes.specs.StoreMap.{map_number}
 use Rattle.store_check.specs.BadPage.{IsLoaded, IsRefusedAt, chains_in}
 use Rattle.store_check.proofs.Steps.{ends, goes_on, none_left, range_left, stops}
 use Rattle.store_check.proofs.surveying.load_buckets.Goals as goal
@@ -12,7 +12,7 @@ pub returns-in-Err : goal.returns-in-Err
 returns-in-Err g c =
     let b = c.loop-bucket.bucket in
     let count = c.args.count in
-    let m = number_of c.args.map in
+    let m = map_number c.args.map in
     record {
       loads = stops IsLoaded IsRefusedAt (bucket_chain m b ∷ []) (map (bucket_chain m) (range_with_len b (count - b)))
           (map (bucket_chain m) (range_with_len (b + 1) (count - (b + 1)))) (chains_in count m) c.args.buckets.now c.loop-bucket.buckets
@@ -25,7 +25,7 @@ pub loop-bucket-preserved : goal.loop-bucket-preserved
 loop-bucket-preserved g c =
     let b = c.loop-bucket.bucket in
     let count = c.args.count in
-    let m = number_of c.args.map in
+    let m = map_number c.args.map in
     let done = c.in_default.ensures.loads in
     record {
       begun = done.begun;
@@ -43,7 +43,7 @@ pub returns : goal.returns
 returns g c =
     let b = c.loop-bucket.bucket in
     let count = c.args.count in
-    let m = number_of c.args.map in
+    let m = map_number c.args.map in
     record {
       loads = ends IsLoaded IsRefusedAt (map (bucket_chain m) (range_with_len b (count - b))) (chains_in count m) c.args.buckets.now
           c.loop-bucket.buckets c.args.marks.now c.loop-bucket.marks

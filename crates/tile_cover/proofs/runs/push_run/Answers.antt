@@ -10,9 +10,9 @@ returns-then-joins c =
     let runs = c.args.runs.now.items in
     let last = c.index-last.result.now in
     let i = c.len-count.result - 1 in
-    let e : set runs i c.joined.result ≡ pushed runs c.args.run =
-    rw c.joined.ensures (set-pushed runs i last c.args.run (omega arith) c.index-last.ensures (sym (c.if-joins.ensures))) in
-    let f = IsTileSet-Adds runs (set runs i c.joined.result) c.args.run e c.requires.set c.requires.run c.requires.later in
+    let e : set runs i c.joined_runs.result ≡ pushed runs c.args.run =
+    rw c.joined_runs.ensures (set-pushed runs i last c.args.run (omega arith) c.index-last.ensures (sym (c.if-joins.ensures))) in
+    let f = IsTileSet-Adds runs (set runs i c.joined_runs.result) c.args.run e c.requires.set c.requires.run c.requires.later in
     record { set = f.0; ok = f.1; err = tt }
 
 -- the run stands at the end

@@ -39,8 +39,8 @@ change_maps-requires-clause-spent g c =
     (not_zero (bucket_count (chains_of c.load_due.new.buckets))
     (λ zero. c.if-root-eq0.false (ap (λ (r : Root). r.buckets) c.root.ensures ∙ zero))))
 
-pub settle-requires : goal.settle-requires
-settle-requires g c = record {
+pub commit_due-requires : goal.commit_due-requires
+commit_due-requires g c = record {
   ready = record {
     going = over_going c.change_maps.new.store c.in-Ok-change_maps.ensures.goes.spent;
     whole = over_whole c.change_maps.new.store c.in-Ok-change_maps.ensures.goes.spent;
@@ -135,8 +135,8 @@ returns-in-Err-change_maps-clause-sound g c held rest same was is style next =
     (looks_then old mid (buckets_of last) c.in-Ok.ensures.goes.runs.looks later.looks) answers)
 
 -- all is committed, or nothing
-pub returns-in-Ok-settle-clause-sound : goal.returns-in-Ok-settle-clause-sound
-returns-in-Ok-settle-clause-sound g c held rest same was is style next =
+pub returns-in-Ok-commit_due-clause-sound : goal.returns-in-Ok-commit_due-clause-sound
+returns-in-Ok-commit_due-clause-sound g c held rest same was is style next =
     let old = buckets_of c.args.maps.now in
     let mid = c.load_due.new.buckets in
     let last = c.change_maps.new.store in
@@ -146,8 +146,8 @@ returns-in-Ok-settle-clause-sound g c held rest same was is style next =
     (c.in-Ok.ensures.has rest rest was) in
     let stand = stands_known held rest is c.args.style.now style in
     sound_turns held rest is c.args.style.now style c.args.limits.now c.args.bounds.now c.args.change.now c.args.number old mid
-    (buckets_of last) c.settle.new.buckets c.in-Ok.ensures.goes.runs.looks later.looks c.change_maps.new.due _
-    c.in-Ok-settle.ensures.commits
+    (buckets_of last) c.commit_due.new.buckets c.in-Ok.ensures.goes.runs.looks later.looks c.change_maps.new.due _
+    c.in-Ok-commit_due.ensures.commits
     (style_in last) _ (later.same_style ∙ c.requires.style) was same next c.requires.counted
     (subst (λ (l : List Run). IsTileSet l) c.as_slice-runs.ensures.runs c.as_slice-runs.ensures.tiles)
     (subst (λ (l : List Entry). AreIdEntries l) c.entries.ensures.entries c.known_ids.ensures)
@@ -164,8 +164,8 @@ returns-clause-sound g c held rest same was is style next =
     (c.in-Ok.ensures.has rest rest was) in
     let stand = stands_known held rest is c.args.style.now style in
     sound_turns held rest is c.args.style.now style c.args.limits.now c.args.bounds.now c.args.change.now c.args.number old mid
-    (buckets_of last) c.settle.new.buckets c.in-Ok.ensures.goes.runs.looks later.looks c.change_maps.new.due _
-    c.in-Err-settle.ensures.commits
+    (buckets_of last) c.commit_due.new.buckets c.in-Ok.ensures.goes.runs.looks later.looks c.change_maps.new.due _
+    c.in-Err-commit_due.ensures.commits
     (style_in last) _ (later.same_style ∙ c.requires.style) was same next c.requires.counted
     (subst (λ (l : List Run). IsTileSet l) c.as_slice-runs.ensures.runs c.as_slice-runs.ensures.tiles)
     (subst (λ (l : List Entry). AreIdEntries l) c.entries.ensures.entries c.known_ids.ensures)
@@ -174,8 +174,8 @@ returns-clause-sound g c held rest same was is style next =
 -- A store that stands for a state.
 
 -- all is committed, or nothing
-pub returns-in-Ok-settle-clause-changes : goal.returns-in-Ok-settle-clause-changes
-returns-in-Ok-settle-clause-changes g c held rest was is style =
+pub returns-in-Ok-commit_due-clause-changes : goal.returns-in-Ok-commit_due-clause-changes
+returns-in-Ok-commit_due-clause-changes g c held rest was is style =
     let mid = c.load_due.new.buckets in
     let change = c.args.change.now in
     let under : Beside = beside rest in
@@ -188,8 +188,8 @@ returns-in-Ok-settle-clause-changes g c held rest was is style =
     (sym style)
     (record { each = told.each; all = told.all; applied = done.applied })
 
-pub returns-in-Ok-settle-clause-turns : goal.returns-in-Ok-settle-clause-turns
-returns-in-Ok-settle-clause-turns g c held rest same was is style next =
+pub returns-in-Ok-commit_due-clause-turns : goal.returns-in-Ok-commit_due-clause-turns
+returns-in-Ok-commit_due-clause-turns g c held rest same was is style next =
     let old = buckets_of c.args.maps.now in
     let mid = c.load_due.new.buckets in
     let last = c.change_maps.new.store in
@@ -199,19 +199,19 @@ returns-in-Ok-settle-clause-turns g c held rest same was is style next =
     (c.in-Ok.ensures.has rest rest was) in
     let stand = maps_stand held rest is c.args.style.now style in
     append_turns held rest is c.args.style.now style c.args.limits.now c.args.bounds.now c.args.change.now c.args.number old mid
-    (buckets_of last) c.settle.new.buckets c.in-Ok.ensures.goes.runs.looks later.looks c.change_maps.new.due _
-    c.in-Ok-settle.ensures.commits
+    (buckets_of last) c.commit_due.new.buckets c.in-Ok.ensures.goes.runs.looks later.looks c.change_maps.new.due _
+    c.in-Ok-commit_due.ensures.commits
     (style_in last) _ _ (later.same_style ∙ c.requires.style) was same next c.requires.counted (c.in-Ok.ensures.due rest rest held was is)
     (subst (λ (l : List Run). IsTileSet l) c.as_slice-runs.ensures.runs c.as_slice-runs.ensures.tiles)
     (subst (λ (l : List Entry). AreIdEntries l) c.entries.ensures.entries c.known_ids.ensures)
     (c.in-Ok-change_maps.ensures.changes under is.maps.maps held.objects keeps stand)
 
-pub returns-in-Ok-settle-clause-ends : goal.returns-in-Ok-settle-clause-ends
-returns-in-Ok-settle-clause-ends g c =
+pub returns-in-Ok-commit_due-clause-ends : goal.returns-in-Ok-commit_due-clause-ends
+returns-in-Ok-commit_due-clause-ends g c =
     let later = c.change_maps.ensures.goes.looked _ (later_same _) in
     append_ends c.args.bounds.now c.args.change.now c.args.number (buckets_of c.args.maps.now) c.load_due.new.buckets
-    (buckets_of c.change_maps.new.store) c.settle.new.buckets c.change_maps.new.due _ c.in-Ok.ensures.goes.runs.looks later.looks
-    c.in-Ok-settle.ensures.commits
+    (buckets_of c.change_maps.new.store) c.commit_due.new.buckets c.change_maps.new.due _ c.in-Ok.ensures.goes.runs.looks later.looks
+    c.in-Ok-commit_due.ensures.commits
 
 pub returns-clause-turns : goal.returns-clause-turns
 returns-clause-turns g c held rest same was is style next =
@@ -224,16 +224,16 @@ returns-clause-turns g c held rest same was is style next =
     (c.in-Ok.ensures.has rest rest was) in
     let stand = maps_stand held rest is c.args.style.now style in
     append_turns held rest is c.args.style.now style c.args.limits.now c.args.bounds.now c.args.change.now c.args.number old mid
-    (buckets_of last) c.settle.new.buckets c.in-Ok.ensures.goes.runs.looks later.looks c.change_maps.new.due _
-    c.in-Err-settle.ensures.commits
+    (buckets_of last) c.commit_due.new.buckets c.in-Ok.ensures.goes.runs.looks later.looks c.change_maps.new.due _
+    c.in-Err-commit_due.ensures.commits
     (style_in last) _ _ (later.same_style ∙ c.requires.style) was same next c.requires.counted (c.in-Ok.ensures.due rest rest held was is)
     (subst (λ (l : List Run). IsTileSet l) c.as_slice-runs.ensures.runs c.as_slice-runs.ensures.tiles)
     (subst (λ (l : List Entry). AreIdEntries l) c.entries.ensures.entries c.known_ids.ensures)
     (c.in-Ok-change_maps.ensures.changes under is.maps.maps held.objects keeps stand)
 
 -- no more was read than the change touches
-pub returns-in-Ok-settle-clause-reads : goal.returns-in-Ok-settle-clause-reads
-returns-in-Ok-settle-clause-reads g c held rest was is style unread may touched pages rests =
+pub returns-in-Ok-commit_due-clause-reads : goal.returns-in-Ok-commit_due-clause-reads
+returns-in-Ok-commit_due-clause-reads g c held rest was is style unread may touched pages rests =
     let old = buckets_of c.args.maps.now in
     let mid = c.load_due.new.buckets in
     let last = c.change_maps.new.store in
@@ -247,15 +247,15 @@ returns-in-Ok-settle-clause-reads g c held rest was is style unread may touched 
     let going = over_going last done.goes.spent in
     let loads = c.in-Ok.ensures.reads in
     let only = c.change_maps.ensures.within under is.maps.maps held.objects keeps stand may touched
-    (none_loaded may old mid (buckets_of last) c.settle.new.buckets unread loads) in
-    change_reads may old mid (buckets_of last) c.settle.new.buckets unread loads c.in-Ok.ensures.goes.runs.looks later.looks
+    (none_loaded may old mid (buckets_of last) c.commit_due.new.buckets unread loads) in
+    change_reads may old mid (buckets_of last) c.commit_due.new.buckets unread loads c.in-Ok.ensures.goes.runs.looks later.looks
     (later.reads going) only going
     (ap (λ (r : Root). r.buckets) (made.has.root ∙ made.root ∙ sym was.root))
-    (c.in-Ok-settle.ensures.reads rest made.now made.has) pages rests
+    (c.in-Ok-commit_due.ensures.reads rest made.now made.has) pages rests
 
 pub returns-clause-ends : goal.returns-clause-ends
 returns-clause-ends g c =
     let later = c.change_maps.ensures.goes.looked _ (later_same _) in
     append_ends c.args.bounds.now c.args.change.now c.args.number (buckets_of c.args.maps.now) c.load_due.new.buckets
-    (buckets_of c.change_maps.new.store) c.settle.new.buckets c.change_maps.new.due _ c.in-Ok.ensures.goes.runs.looks later.looks
-    c.in-Err-settle.ensures.commits
+    (buckets_of c.change_maps.new.store) c.commit_due.new.buckets c.change_maps.new.due _ c.in-Ok.ensures.goes.runs.looks later.looks
+    c.in-Err-commit_due.ensures.commits

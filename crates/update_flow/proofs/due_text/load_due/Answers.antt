@@ -3,7 +3,7 @@ use Rattle.std.proofs.Common.{◌≡◌, ◌∙◌, ℕ, List, Some, rules, sym,
 use Rattle.tile_cover.specs.Runs.{has}
 use Rattle.tile_cover.specs.declared.runs.Run.{Run}
 use Rattle.due_tiles.specs.Spelling.{set_bytes}
-use Rattle.update_flow.specs.Within.{IsSound, Runs}
+use Rattle.update_flow.specs.Within.{IsSound, RunsWithin}
 use Rattle.update_flow.specs.declared.fault.FlowFault.{FlowFault}
 use Rattle.update_flow.proofs.Openings.{sound_store}
 use Rattle.update_flow.proofs.Running.{runs_done, runs_refused, runs_unread}
@@ -25,7 +25,7 @@ returns-in-Err-clause-spelled g c = λ rest now due has is.
 pub returns-in-Err-clause-goes : goal.returns-in-Err-clause-goes
 returns-in-Err-clause-goes g c = record {
   going = search rules;
-  runs = subst (λ (f : FlowFault). Runs c.args.buckets.now c.load.new.self (Some f)) (sym c.store_fault.ensures)
+  runs = subst (λ (f : FlowFault). RunsWithin c.args.buckets.now c.load.new.self (Some f)) (sym c.store_fault.ensures)
       (runs_refused c.args.buckets.now c.load.new.self c.load.ensures.touches.same c.requires.ready.whole (List ℕ) c.in-Err.fault
       c.in-Err.ensures.touches.alone c.in-Err.ensures.touches.broken c.in-Err.ensures.touches.cause);
 }

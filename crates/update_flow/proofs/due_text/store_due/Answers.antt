@@ -1,7 +1,7 @@
 -- The bytes of a set of tiles become the text.
 use Rattle.std.proofs.Common.{ℕ, List, Some, rules, sym, subst}
 use Rattle.bucket_store.specs.Image.{Has, with_text}
-use Rattle.update_flow.specs.Within.{IsSound, Runs}
+use Rattle.update_flow.specs.Within.{IsSound, RunsWithin}
 use Rattle.update_flow.specs.declared.fault.FlowFault.{FlowFault}
 use Rattle.update_flow.specs.declared.fields.TheConstants.{DUE_TEXT}
 use Rattle.update_flow.proofs.Openings.{sound_store}
@@ -36,7 +36,7 @@ returns-in-Err-store-clause-stores g c = record {
   sound = λ rest now was.
       subst (λ (f : FlowFault). IsSound (Some f)) (sym c.store_fault.ensures)
       (sound_store (Unit {0}) c.in-Err-store.fault (c.in-Err-store.ensures.text.sound rest now was));
-  runs = subst (λ (f : FlowFault). Runs c.args.buckets.now c.store.new.self (Some f)) (sym c.store_fault.ensures)
+  runs = subst (λ (f : FlowFault). RunsWithin c.args.buckets.now c.store.new.self (Some f)) (sym c.store_fault.ensures)
       (runs_refused c.args.buckets.now c.store.new.self c.store.ensures.touches.same c.requires.ready.whole (Unit {0}) c.in-Err-store.fault
       c.in-Err-store.ensures.touches.alone c.in-Err-store.ensures.touches.broken c.in-Err-store.ensures.touches.cause);
 }

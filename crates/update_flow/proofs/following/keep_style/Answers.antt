@@ -1,6 +1,6 @@
 -- The bytes become the text.
 use Rattle.std.proofs.Common.{Some, rules, sym, subst}
-use Rattle.update_flow.specs.Within.{IsSound, Runs}
+use Rattle.update_flow.specs.Within.{IsSound, RunsWithin}
 use Rattle.update_flow.specs.declared.fault.FlowFault.{FlowFault}
 use Rattle.update_flow.proofs.Openings.{sound_store}
 use Rattle.update_flow.proofs.Running.{runs_done, runs_refused}
@@ -24,7 +24,7 @@ returns-in-Err g c = record {
     sound = λ rest now was.
         subst (λ (f : FlowFault). IsSound (Some f)) (sym c.store_fault.ensures)
         (sound_store (Unit {0}) c.in-Err.fault (c.in-Err.ensures.text.sound rest now was));
-    runs = subst (λ (f : FlowFault). Runs c.args.buckets.now c.store.new.self (Some f)) (sym c.store_fault.ensures)
+    runs = subst (λ (f : FlowFault). RunsWithin c.args.buckets.now c.store.new.self (Some f)) (sym c.store_fault.ensures)
         (runs_refused c.args.buckets.now c.store.new.self c.store.ensures.touches.same c.requires.ready.whole (Unit {0}) c.in-Err.fault
         c.in-Err.ensures.touches.alone c.in-Err.ensures.touches.broken c.in-Err.ensures.touches.cause);
   };

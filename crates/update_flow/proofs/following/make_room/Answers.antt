@@ -4,7 +4,7 @@ use Rattle.chain_store.specs.declared.root.Root.{Root}
 use Rattle.bucket_store.specs.Image.{with_buckets, with_root}
 use Rattle.row_store.specs.Clearing.{without_rows}
 use Rattle.update_flow.specs.State.{follower_buckets}
-use Rattle.update_flow.specs.Within.{IsSound, Runs}
+use Rattle.update_flow.specs.Within.{IsSound, RunsWithin}
 use Rattle.update_flow.specs.declared.fault.FlowFault.{FlowFault}
 use Rattle.update_flow.proofs.Openings.{sound_store}
 use Rattle.update_flow.proofs.Running.{runs_done, runs_refused}
@@ -44,7 +44,7 @@ returns-in-Err-clause-goes g c =
     let looks = c.in-Err.ensures.looks in
     record {
       going = search rules;
-      runs = subst (λ (f : FlowFault). Runs c.args.buckets.now c.clear.new.buckets (Some f)) (sym c.store_fault.ensures)
+      runs = subst (λ (f : FlowFault). RunsWithin c.args.buckets.now c.clear.new.buckets (Some f)) (sym c.store_fault.ensures)
           (runs_refused c.args.buckets.now c.clear.new.buckets looks.same c.requires.ready.whole (Unit {0}) c.in-Err.fault looks.alone
           looks.broken looks.cause);
     }

@@ -6,7 +6,7 @@ use Rattle.bucket_store.specs.Image.{Has, Image}
 use Rattle.bucket_store.specs.Transaction.{IsOpenStore, chains_of}
 use Rattle.store_check.specs.BadPage.{IsUnused}
 use Rattle.update_flow.specs.Judged.{AreEmptyBelow, HasOnlyRead}
-use Rattle.update_flow.specs.Within.{IsGoing, Runs}
+use Rattle.update_flow.specs.Within.{IsGoing, RunsWithin}
 use Rattle.std.proofs.Common.{None}
 use Rattle.update_flow.proofs.judging.are_empty.Given as goal
 
@@ -15,7 +15,7 @@ abbrev pub invariant-loop-n : goal.invariant-loop-n
 invariant-loop-n g l = record {
   few : l.n ≤ 8;
   going : IsGoing l.buckets;
-  runs : Runs l.initial.buckets l.buckets None;
+  runs : RunsWithin l.initial.buckets l.buckets None;
   reads : HasOnlyRead l.initial.buckets l.buckets;
   opens : (pages : List (List ℕ)) → IsOpenStore pages l.initial.buckets → IsOpenStore pages l.buckets;
   chains : (pages : List (List ℕ)) → IsOpenStore pages l.initial.buckets → written_of (chains_of l.initial.buckets) ≡ finite.empty

@@ -8,7 +8,7 @@ use Rattle.chain_store.specs.declared.root.Root.{Root}
 use Rattle.bucket_store.specs.Transaction.{chains_of}
 use Rattle.update_flow.specs.Judged.{JudgesImage}
 use Rattle.update_flow.specs.Roots.{is_blank, is_imported}
-use Rattle.update_flow.specs.Within.{Runs, is_whole_store}
+use Rattle.update_flow.specs.Within.{RunsWithin, is_whole_store}
 use Rattle.update_flow.proofs.Judgements.{begun_has, image_judges, kept_long, meant, unused_judges}
 use Rattle.update_flow.proofs.Running.{runs_then}
 use Rattle.update_flow.proofs.judging.judge_surveyed.Goals as goal
@@ -46,7 +46,7 @@ returns-in-Ok-clause-exact g c = λ pages opens today loaded owned.
 pub returns-in-Ok-clause-runs : goal.returns-in-Ok-clause-runs
 returns-in-Ok-clause-runs g c =
     let whole : is_whole_store c.begin.new.self = ap (λ j. is_broken j) c.begin.ensures.journal ∙ c.in-Ok.ensures.reads.runs.whole tt in
-    let begun : Runs c.are_empty.new.buckets c.begin.new.self None =
+    let begun : RunsWithin c.are_empty.new.buckets c.begin.new.self None =
     record { looks = c.begin.ensures.same; alone = tt; whole = λ no. whole; failed = λ is. absurd (cc (is)) } in
     runs_then c.args.buckets.now c.are_empty.new.buckets c.judge_meant.new.buckets (result_err c.judge_meant.result)
     c.in-Ok.ensures.reads.runs

@@ -8,7 +8,7 @@ use Rattle.chain_store.specs.declared.root.Root.{Root}
 use Rattle.bucket_store.specs.Buckets.{chain_at}
 use Rattle.bucket_store.specs.Image.{Has, Image}
 use Rattle.bucket_store.specs.Transaction.{chains_of}
-use Rattle.value_bytes.specs.StoreMap.{number_of}
+use Rattle.value_bytes.specs.StoreMap.{map_number}
 use Rattle.store_check.specs.Wrong.{IsFirstWrong}
 use Rattle.store_check.specs.declared.wrong.Wrong.{Wrong}
 use Rattle.update_flow.specs.Within.{IsSound}
@@ -31,7 +31,7 @@ returns-in-Ok-Some-clause-wrong g c = λ at is image has.
     let old = c.args.buckets.now in
     let new = c.first_wrong.new.buckets in
     let stays = c.in-Ok-Some.ensures.looks.stays in
-    let which = number_of c.in-Ok-Some.wrong.map in
+    let which = map_number c.in-Ok-Some.wrong.map in
     let key = c.in-Ok-Some.wrong.key in
     let first : (rest : Image) → Has rest rest old → IsFirstWrong c.args.style.now rest c.in-Ok-Some.wrong.map key =
     subst (λ (found : Option Wrong). IfSome found (λ own. (rest : Image) → Has rest rest old

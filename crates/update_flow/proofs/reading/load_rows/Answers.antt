@@ -6,7 +6,7 @@ use Rattle.osm_base.specs.map.Spots.{TableMap}
 use Rattle.row_store.specs.Loading.{AreTold, Fills, RowsBySpot}
 use Rattle.style_read.specs.Style.{StyleOf}
 use Rattle.bucket_store.specs.Image.{Image}
-use Rattle.update_flow.specs.Within.{IsSound, Runs}
+use Rattle.update_flow.specs.Within.{IsSound, RunsWithin}
 use Rattle.update_flow.specs.declared.fault.FlowFault.{FlowFault}
 use Rattle.osm_base.proofs.SpotOrder.{spot_cmp_total, spot_cmp-IsAntisymmetric}
 use Rattle.row_store.proofs.MapTables.{nodes_told, others_told, wanted_row}
@@ -49,7 +49,7 @@ returns-in-Err-clause-sound g c = λ rest now held has is same.
 
 pub returns-in-Err-clause-runs : goal.returns-in-Err-clause-runs
 returns-in-Err-clause-runs g c =
-    subst (λ (f : FlowFault). Runs c.args.buckets.now c.load.new.buckets (Some f)) (sym c.store_fault.ensures)
+    subst (λ (f : FlowFault). RunsWithin c.args.buckets.now c.load.new.buckets (Some f)) (sym c.store_fault.ensures)
     (runs_refused c.args.buckets.now c.load.new.buckets c.load.ensures.looks.same c.requires.ready.whole (Unit {0}) c.in-Err.fault
     c.in-Err.ensures.looks.alone c.in-Err.ensures.looks.broken c.in-Err.ensures.looks.cause)
 

@@ -2,7 +2,7 @@
 use Rattle.std.proofs.Common.{◌∙◌, ℕ, Option, None, Some, sym, ap, subst, arith}
 use Rattle.row_store.specs.Loading.{AreTold}
 use Rattle.style_read.specs.Style.{StyleOf}
-use Rattle.update_flow.specs.Within.{IsSound, Runs}
+use Rattle.update_flow.specs.Within.{IsSound, RunsWithin}
 use Rattle.update_flow.specs.declared.fault.FlowFault.{FlowFault}
 use Rattle.store_maps.specs.declared.sorted_rows.SortedRows.{SortedRows}
 use Rattle.row_store.proofs.MapTables.{nodes_told, others_told, wanted_row}
@@ -34,7 +34,7 @@ returns-in-Err-clause-sound g c = λ rest now held has is same.
 
 pub returns-in-Err-clause-runs : goal.returns-in-Err-clause-runs
 returns-in-Err-clause-runs g c =
-    subst (λ (f : FlowFault). Runs c.args.buckets.now c.load_sorted.new.buckets (Some f)) (sym c.store_fault.ensures)
+    subst (λ (f : FlowFault). RunsWithin c.args.buckets.now c.load_sorted.new.buckets (Some f)) (sym c.store_fault.ensures)
     (runs_refused c.args.buckets.now c.load_sorted.new.buckets c.load_sorted.ensures.looks.same c.requires.ready.whole SortedRows c.in-Err.fault
     c.in-Err.ensures.looks.alone c.in-Err.ensures.looks.broken c.in-Err.ensures.looks.cause)
 

@@ -1,5 +1,5 @@
 use Rattle.std.proofs.Common.{List, ℕ, Some, sym, subst}
-use Rattle.update_flow.specs.Within.{IsSound, Runs}
+use Rattle.update_flow.specs.Within.{IsSound, RunsWithin}
 use Rattle.update_flow.specs.declared.fault.FlowFault.{FlowFault}
 use Rattle.update_flow.proofs.Openings.{sound_store}
 use Rattle.update_flow.proofs.Running.{runs_done, runs_refused}
@@ -12,7 +12,7 @@ returns-in-Err-clause-sound g c = λ rest now has.
 
 pub returns-in-Err-clause-runs : goal.returns-in-Err-clause-runs
 returns-in-Err-clause-runs g c =
-    subst (λ (f : FlowFault). Runs c.args.buckets.now c.load.new.self (Some f)) (sym c.store_fault.ensures)
+    subst (λ (f : FlowFault). RunsWithin c.args.buckets.now c.load.new.self (Some f)) (sym c.store_fault.ensures)
     (runs_refused c.args.buckets.now c.load.new.self c.load.ensures.touches.same c.requires.ready.whole (List ℕ) c.in-Err.fault
     c.in-Err.ensures.touches.alone c.in-Err.ensures.touches.broken c.in-Err.ensures.touches.cause)
 

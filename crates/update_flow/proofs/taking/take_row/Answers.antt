@@ -2,7 +2,7 @@
 use Rattle.std.proofs.Common.{Some, ap, rules, sym, subst}
 use Rattle.chain_store.specs.declared.root.Root.{Root}
 use Rattle.store_maps.specs.Asked.{row_key}
-use Rattle.update_flow.specs.Within.{IsSound, Runs}
+use Rattle.update_flow.specs.Within.{IsSound, RunsWithin}
 use Rattle.update_flow.specs.declared.fault.FlowFault.{FlowFault}
 use Rattle.update_flow.proofs.Openings.{sound_store}
 use Rattle.update_flow.proofs.Running.{runs_done, runs_refused}
@@ -43,7 +43,7 @@ returns-in-Err-clause-goes g c =
     let touches = c.in-Err.ensures.touches in
     record {
       going = search rules;
-      runs = subst (λ (f : FlowFault). Runs c.args.buckets.now c.set_row.new.buckets (Some f)) (sym c.store_fault.ensures)
+      runs = subst (λ (f : FlowFault). RunsWithin c.args.buckets.now c.set_row.new.buckets (Some f)) (sym c.store_fault.ensures)
           (runs_refused c.args.buckets.now c.set_row.new.buckets touches.same c.requires.filled.ready.whole (Unit {0}) c.in-Err.fault
           touches.alone touches.broken touches.cause);
     }

@@ -5,14 +5,14 @@ use Rattle.bucket_store.specs.Image.{Has, Image}
 use Rattle.bucket_store.specs.Transaction.{chains_of, has_refused}
 use Rattle.row_store.specs.Tables.{HoldsTables}
 use Rattle.update_flow.specs.Taking.{AllFit, HasTables}
-use Rattle.update_flow.specs.Within.{Runs}
+use Rattle.update_flow.specs.Within.{RunsWithin}
 use Rattle.update_flow.proofs.taking.take_rows.Given as goal
 
 -- the changes so far were made: those that are left, the last of them first, lead to what all of them do
 abbrev pub invariant-loop-change : goal.invariant-loop-change
 invariant-loop-change g l = record {
   going : has_refused l.buckets ≡ false;
-  runs : Runs l.initial.buckets l.buckets None;
+  runs : RunsWithin l.initial.buckets l.buckets None;
   count : bucket_count (chains_of l.buckets) ≡ bucket_count (chains_of l.initial.buckets);
   fit : AllFit l.style.tables (reverse l.changes.items);
   taken : (rest now : Image) (tables : TableMap) → Has rest now l.initial.buckets → HoldsTables l.style.tables now.maps tables

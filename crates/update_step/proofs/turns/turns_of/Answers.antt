@@ -39,7 +39,7 @@ loop-index-preserved c =
           let first : Bool = has c.args.due.now zoom x y in
           let set : Bool = has c.loop-index.due zoom x y in
           let batch : Bool = has c.loop-index.batch zoom x y in
-          c.in_ok-settle.ensures.same zoom x y
+          c.in_ok-unite_batch.ensures.same zoom x y
           ∙ ap (λ (b : Bool). set || b) (c.in_ok-here.ensures.due zoom x y
           ∙ ap (λ (rows : List TableRow). batch || due rows c.as_slice-new.result.now) (was old olds)
           ∙ ap (λ (rows : List TableRow). batch || due (old key) rows) (is new news))

@@ -5,7 +5,7 @@ use Rattle.run_promise.specs.declared.fault.Outcome.{Outcome}
 use Rattle.run_promise.specs.CommandOf.{CommandOf}
 use Rattle.run_promise.specs.Runs.{Runs}
 use Rattle.run_promise.specs.World.{World, world}
-use Rattle.updater.specs.Command.{seen}
+use Rattle.updater.specs.Command.{command_view}
 use Rattle.updater.proofs.running.run.Goals as goal
 
 -- two commands that are told alike are one
@@ -27,8 +27,8 @@ pub returns-clause-runs : goal.returns-clause-runs
 returns-clause-runs g c own is =
     let outcome : c.of-2.result.fault ≡ c.err.result = ap (λ (own : Outcome). own.fault) c.of-2.ensures.status in
     let told : result_err c.run_command.result ≡ c.of-2.result.fault = sym c.err.ensures.value ∙ sym outcome in
-    let same : seen c.in-Some.command ≡ own = same-command (seen c.in-Some.command) own (c.in-Some.ensures.command ∙ is) in
+    let same : command_view c.in-Some.command ≡ own = same-command (command_view c.in-Some.command) own (c.in-Some.ensures.command ∙ is) in
     carried (λ (asked : List ℕ). g.I.Inputs.reads c.args.inputs.now asked c.run_command.new.inputs)
     (world (g.I.Inputs.view c.args.inputs.now) (g.D.Disk.view c.args.disk.now) (g.S.Sink.view c.args.out.now))
     (world (g.I.Inputs.view c.run_command.new.inputs) (g.D.Disk.view c.run_command.new.disk) (g.S.Sink.view c.run_command.new.out))
-    (seen c.in-Some.command) own (result_err c.run_command.result) c.of-2.result.fault same told c.run_command.ensures.runs
+    (command_view c.in-Some.command) own (result_err c.run_command.result) c.of-2.result.fault same told c.run_command.ensures.runs

@@ -5,7 +5,7 @@ use Rattle.osm_base.specs.map.Known.{Index, RelationsOfNode}
 use Rattle.back_index.specs.Calls.{page_in}
 use Rattle.back_index.specs.Index.{IsDamaged}
 use Rattle.back_index.specs.Relisting.{IsUnread}
-use Rattle.value_bytes.specs.StoreMap.{number_of}
+use Rattle.value_bytes.specs.StoreMap.{map_number}
 use Rattle.value_bytes.specs.declared.store_map.StoreMap.TheVariants.{RelationsOfNodes}
 use Rattle.back_index.proofs.Answering.{asked_err, asked_ok, borne, fresh_after, knows_still, spent_going, spent_refused, spent_some}
 use Rattle.back_index.proofs.Held.{reads_one}
@@ -22,7 +22,7 @@ listers-requires g c = record {
 
 pub returns-in-Ok-clause-ids : goal.returns-in-Ok-clause-ids
 returns-in-Ok-clause-ids g c index knows =
-    reads_one (finite.get (knows.now.maps (number_of RelationsOfNodes)) c.args.id) c.in-Ok.ids
+    reads_one (finite.get (knows.now.maps (map_number RelationsOfNodes)) c.args.id) c.in-Ok.ids
     (finite.get knows.maps.relations_of_nodes c.args.id)
     (c.in-Ok.ensures.ids.are knows.rest knows.now knows.has_it) (knows.listings.relations_of_nodes c.args.id)
     ∙ ap (λ (ix : Index). ix.relations_of_node c.args.id) (sym knows.index_is)
@@ -55,8 +55,8 @@ returns-in-Err-clause-asked g c =
     asked_err c.args.self.now.buckets c.listers.new.buckets c.requires
     (RelationsOfNode c.args.id ∷ []) c.in-Err.fault c.args.self.now.stopped c.in-Err.ensures.asks.touches.answers
     c.in-Err.ensures.asks.has
-    (λ rest now owns. refuses_more (λ at. IsUnread (finite.get (now.maps (number_of RelationsOfNodes)) c.args.id)
-    × (at ≡ page_in c.args.self.now.buckets (number_of RelationsOfNodes) c.args.id))
+    (λ rest now owns. refuses_more (λ at. IsUnread (finite.get (now.maps (map_number RelationsOfNodes)) c.args.id)
+    × (at ≡ page_in c.args.self.now.buckets (map_number RelationsOfNodes) c.args.id))
     (IsDamaged c.args.self.now.buckets now)
     (λ at bad. inl (record { own = RelationsOfNodes; id = c.args.id; is_index = inr (inl refl); unread = bad.0; page_is = bad.1 }))
     c.in-Err.fault

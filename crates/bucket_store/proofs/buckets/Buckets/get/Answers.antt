@@ -4,7 +4,7 @@ use Rattle.page_journal.specs.declared.fault.StoreFault.TheVariants.{OutOfMemory
 use Rattle.bucket_store.specs.Transaction.{bucket_at}
 use Rattle.bucket_store.proofs.Bare.{none_got}
 use Rattle.bucket_store.proofs.Frames.{content_at, keeps_after, keeps_same, touches_none}
-use Rattle.value_bytes.specs.StoreMap.{number_of}
+use Rattle.value_bytes.specs.StoreMap.{map_number}
 use Rattle.bucket_store.proofs.buckets.Buckets.get.Goals as goal
 
 pub returns-then-is_bare-clause-bytes : goal.returns-then-is_bare-clause-bytes
@@ -22,7 +22,7 @@ returns-then-is_bare-clause-bytes g c =
 pub returns-then-is_bare-clause-touches : goal.returns-then-is_bare-clause-touches
 returns-then-is_bare-clause-touches g c =
     let self = c.args.self.now in
-    touches_none (bucket_at self (number_of c.args.map) c.args.key) self None c.requires.ready.going
+    touches_none (bucket_at self (map_number c.args.map) c.args.key) self None c.requires.ready.going
 
 pub returns-in-Ok-clause-bytes : goal.returns-in-Ok-clause-bytes
 returns-in-Ok-clause-bytes g c =
@@ -32,7 +32,7 @@ returns-in-Ok-clause-bytes g c =
     record {
       value = λ pages was values has.
           c.in-Ok.ensures.value pages values
-          (content_at (number_of c.args.map) c.args.key old mid c.in_default.ensures.touches.stays brings.keeps.content pages was values
+          (content_at (map_number c.args.map) c.args.key old mid c.in_default.ensures.touches.stays brings.keeps.content pages was values
           has);
       found = λ rest now has. c.in-Ok.ensures.found rest now (brings.keeps.has refl rest now has);
       answers = λ pages was. tt;

@@ -15,8 +15,8 @@ use Rattle.bucket_store.proofs.Openings.{bucket_in-chain_at, buckets_more, conte
 use Rattle.bucket_store.proofs.Openings.{open_more, put_there, some_of, there_own}
 use Rattle.bucket_store.proofs.Holding.{has_changed}
 use Rattle.bucket_store.proofs.Settings.{set_or_same}
-use Rattle.value_bytes.specs.StoreMap.{number_of}
-use Rattle.value_bytes.proofs.MapNumbers.{number_of-below}
+use Rattle.value_bytes.specs.StoreMap.{map_number}
+use Rattle.value_bytes.proofs.MapNumbers.{map_number-below}
 use Rattle.bucket_store.proofs.buckets.Buckets.put.Goals as goal
 
 pub invariant_of-self : goal.invariant_of-self
@@ -25,7 +25,7 @@ invariant_of-self g c =
     let n = c.chain_of-chain.result in
     let count = bucket_count c.args.self.now.chains in
     let place : c.args.key % count ≡ bucket_in n =
-    sym (bucket_in-chain_at count (number_of c.args.map) c.args.key c.requires.ready.some c.args.self.now.chains.few)
+    sym (bucket_in-chain_at count (map_number c.args.map) c.args.key c.requires.ready.some c.args.self.now.chains.few)
     ∙ ap (λ (k : ℕ). bucket_in k) (sym c.chain_of-chain.ensures.chain) in
     let after = set_or_same c.in-Ok.there cache c.put.new.self n c.args.key c.args.value.now c.in-Ok.ensures.there c.in-Ok.ensures.ok
     c.in-Ok.ensures.none in
@@ -50,7 +50,7 @@ returns-then-there-clause-value g c =
     let self = c.args.self.now in
     let cache = self.cache in
     let n = c.chain_of-chain.result in
-    let at = bucket_at self (number_of c.args.map) c.args.key in
+    let at = bucket_at self (map_number c.args.map) c.args.key in
     let found = there_own (map.get cache n) (true_is_some c.in-Ok.there (map.get cache n) c.in-Ok.ensures.there c.if-there.true) in
     let own : Cached = changed_to found.0 (map.insert found.0.bucket.values c.args.key c.args.value.now) in
     let is = c.in-Ok.ensures.ok found.0 found.1 in
@@ -74,8 +74,8 @@ returns-then-there-clause-value g c =
       here = put;
       others = others;
       has = λ rest now has.
-          has_changed rest now self _ (number_of c.args.map) c.args.key (Some c.args.value.now)
-          (number_of-below c.args.map) c.requires.ready.some refl refl has.whole
+          has_changed rest now self _ (map_number c.args.map) c.args.key (Some c.args.value.now)
+          (map_number-below c.args.map) c.requires.ready.some refl refl has.whole
           (λ pages was. open_more pages self.chains cache c.put.new.self n own is (λ same. absurd (never_changed same))
           (was.origins n found.0 found.1) was)
           put others has;
@@ -86,7 +86,7 @@ pub returns-then-there-clause-touches : goal.returns-then-there-clause-touches
 returns-then-there-clause-touches g c =
     let self = c.args.self.now in
     let n = c.chain_of-chain.result in
-    let at = bucket_at self (number_of c.args.map) c.args.key in
+    let at = bucket_at self (map_number c.args.map) c.args.key in
     let found = there_own (map.get self.cache n)
     (true_is_some c.in-Ok.there (map.get self.cache n) c.in-Ok.ensures.there c.if-there.true) in
     let own : Cached = changed_to found.0 (map.insert found.0.bucket.values c.args.key c.args.value.now) in
@@ -98,6 +98,6 @@ returns-then-there-clause-touches g c =
 
 pub returns-else-there-clause-value : goal.returns-else-there-clause-value
 returns-else-there-clause-value g c =
-    sets_same (number_of c.args.map) c.args.key c.args.value.now c.args.self.now _ c.bring_and_set.new.self c.bring_and_set.result refl
+    sets_same (map_number c.args.map) c.args.key c.args.value.now c.args.self.now _ c.bring_and_set.new.self c.bring_and_set.result refl
     (c.in-Ok.ensures.none c.if-there.false)
     c.bring_and_set.ensures.value

@@ -6,8 +6,8 @@ use Rattle.bucket_store.specs.Transaction.{bucket_at}
 use Rattle.bucket_store.proofs.Bare.{bare_records}
 use Rattle.bucket_store.proofs.Frames.{content_at, keeps_after, keeps_same, touches_none}
 use Rattle.bucket_store.proofs.Numbered.{no_entries}
-use Rattle.value_bytes.specs.StoreMap.{number_of}
-use Rattle.value_bytes.proofs.MapNumbers.{number_of-below}
+use Rattle.value_bytes.specs.StoreMap.{map_number}
+use Rattle.value_bytes.proofs.MapNumbers.{map_number-below}
 use Rattle.bucket_store.proofs.buckets.Buckets.records.Goals as goal
 
 pub returns-then-is_bare-clause-records : goal.returns-then-is_bare-clause-records
@@ -17,8 +17,8 @@ returns-then-is_bare-clause-records g c =
     record {
       value = λ pages was values has. c.new.ensures.items ∙ sym (no_entries values (bare pages values has));
       found = λ rest now has. subst (λ (records : List (ℕ × List ℕ)).
-          IsBucketOf now (number_of c.args.map) (c.args.key % now.root.buckets) records) (sym c.new.ensures.items)
-          (bare_records rest now self (number_of c.args.map) c.args.key (number_of-below c.args.map) c.requires.ready.some bare has);
+          IsBucketOf now (map_number c.args.map) (c.args.key % now.root.buckets) records) (sym c.new.ensures.items)
+          (bare_records rest now self (map_number c.args.map) c.args.key (map_number-below c.args.map) c.requires.ready.some bare has);
       answers = λ pages was. tt;
       sound = λ rest now has. tt;
       keeps = keeps_same self (Ok c.new.result);
@@ -27,7 +27,7 @@ returns-then-is_bare-clause-records g c =
 pub returns-then-is_bare-clause-touches : goal.returns-then-is_bare-clause-touches
 returns-then-is_bare-clause-touches g c =
     let self = c.args.self.now in
-    touches_none (bucket_at self (number_of c.args.map) c.args.key) self c.new.result c.requires.ready.going
+    touches_none (bucket_at self (map_number c.args.map) c.args.key) self c.new.result c.requires.ready.going
 
 pub returns-in-Ok-clause-records : goal.returns-in-Ok-clause-records
 returns-in-Ok-clause-records g c =
@@ -37,7 +37,7 @@ returns-in-Ok-clause-records g c =
     record {
       value = λ pages was values has.
           c.in-Ok.ensures.records pages values
-          (content_at (number_of c.args.map) c.args.key old mid c.in_default.ensures.touches.stays brings.keeps.content pages was values
+          (content_at (map_number c.args.map) c.args.key old mid c.in_default.ensures.touches.stays brings.keeps.content pages was values
           has);
       found = λ rest now has. c.in-Ok.ensures.found rest now (brings.keeps.has refl rest now has);
       answers = λ pages was. tt;

@@ -11,12 +11,12 @@ use Rattle.bucket_store.proofs.Openings.{bucket_in-chain_at, buckets_more, conte
 use Rattle.bucket_store.proofs.Openings.{open_more, put_there, there_own}
 use Rattle.std.proofs.Common.{Some, refl}
 use Rattle.bucket_store.proofs.Holding.{has_changed, some_at}
-use Rattle.value_bytes.specs.StoreMap.{number_of}
-use Rattle.value_bytes.proofs.MapNumbers.{number_of-below}
+use Rattle.value_bytes.specs.StoreMap.{map_number}
+use Rattle.value_bytes.proofs.MapNumbers.{map_number-below}
 use Rattle.bucket_store.proofs.buckets.Buckets.set.Goals as goal
 
 pub chain_of-n-requires : goal.chain_of-n-requires
-chain_of-n-requires g c = record { some = some_at c.args.self.now (number_of c.args.map) c.args.key c.requires.there }
+chain_of-n-requires g c = record { some = some_at c.args.self.now (map_number c.args.map) c.args.key c.requires.there }
 
 pub invariant_of-self : goal.invariant_of-self
 invariant_of-self g c =
@@ -27,8 +27,8 @@ invariant_of-self g c =
     (sym c.chain_of-n.ensures.chain) c.requires.there) in
     let own : Cached = changed_to found.0 (map.insert found.0.bucket.values c.args.key c.args.value.now) in
     let place : c.args.key % count ≡ bucket_in n =
-    sym (bucket_in-chain_at count (number_of c.args.map) c.args.key
-    (some_at c.args.self.now (number_of c.args.map) c.args.key c.requires.there) c.args.self.now.chains.few)
+    sym (bucket_in-chain_at count (map_number c.args.map) c.args.key
+    (some_at c.args.self.now (map_number c.args.map) c.args.key c.requires.there) c.args.self.now.chains.few)
     ∙ ap (λ (k : ℕ). bucket_in k) (sym c.chain_of-n.ensures.chain) in
     record {
       going = c.args.self.now.going;
@@ -42,7 +42,7 @@ pub returns-in-Ok-clause-put : goal.returns-in-Ok-clause-put
 returns-in-Ok-clause-put g c pages was values has =
     let cache = c.args.self.now.cache in
     let n = c.chain_of-n.result in
-    let at = chain_at (bucket_count c.args.self.now.chains) (number_of c.args.map) c.args.key in
+    let at = chain_at (bucket_count c.args.self.now.chains) (map_number c.args.map) c.args.key in
     let found = there_own (map.get cache n) (subst (λ (k : ℕ). IsSome (map.get cache k))
     (sym c.chain_of-n.ensures.chain) c.requires.there) in
     let own : Cached = changed_to found.0 (map.insert found.0.bucket.values c.args.key c.args.value.now) in
@@ -80,7 +80,7 @@ returns-in-Ok-clause-memory g c =
 
 pub returns-in-Ok-clause-has : goal.returns-in-Ok-clause-has
 returns-in-Ok-clause-has g c rest now has =
-    has_changed rest now c.args.self.now _ (number_of c.args.map) c.args.key
-    (Some c.args.value.now) (number_of-below c.args.map)
-    (some_at c.args.self.now (number_of c.args.map) c.args.key c.requires.there) refl refl has.whole
+    has_changed rest now c.args.self.now _ (map_number c.args.map) c.args.key
+    (Some c.args.value.now) (map_number-below c.args.map)
+    (some_at c.args.self.now (map_number c.args.map) c.args.key c.requires.there) refl refl has.whole
     (returns-in-Ok-clause-memory g c).opens (returns-in-Ok-clause-put g c) (returns-in-Ok-clause-others g c) has

@@ -14,12 +14,12 @@ use Rattle.bucket_store.proofs.Openings.{open_more, put_there, taken_own, there_
 use Rattle.std.proofs.Common.{None, refl}
 use Rattle.bucket_store.proofs.Holding.{has_bucket, has_changed, some_at}
 use Rattle.std.specs.Option.{is_some}
-use Rattle.value_bytes.specs.StoreMap.{number_of}
-use Rattle.value_bytes.proofs.MapNumbers.{number_of-below}
+use Rattle.value_bytes.specs.StoreMap.{map_number}
+use Rattle.value_bytes.proofs.MapNumbers.{map_number-below}
 use Rattle.bucket_store.proofs.buckets.Buckets.unset.Goals as goal
 
 pub chain_of-n-requires : goal.chain_of-n-requires
-chain_of-n-requires g c = record { some = some_at c.args.self.now (number_of c.args.map) c.args.key c.requires.there }
+chain_of-n-requires g c = record { some = some_at c.args.self.now (map_number c.args.map) c.args.key c.requires.there }
 
 pub invariant_of-self : goal.invariant_of-self
 invariant_of-self g c =
@@ -47,7 +47,7 @@ pub returns-in-Ok-clause-taken : goal.returns-in-Ok-clause-taken
 returns-in-Ok-clause-taken g c pages was values has =
     let cache = c.args.self.now.cache in
     let n = c.chain_of-n.result in
-    let at = chain_at (bucket_count c.args.self.now.chains) (number_of c.args.map) c.args.key in
+    let at = chain_at (bucket_count c.args.self.now.chains) (map_number c.args.map) c.args.key in
     let found = there_own (map.get cache n) (subst (λ (k : ℕ). IsSome (map.get cache k))
     (sym c.chain_of-n.ensures.chain) c.requires.there) in
     let own : Cached = changed_to found.0 (map.remove found.0.bucket.values c.args.key) in
@@ -100,11 +100,11 @@ returns-in-Ok-clause-memory g c =
 
 pub returns-in-Ok-clause-has : goal.returns-in-Ok-clause-has
 returns-in-Ok-clause-has g c rest now has =
-    let own = has_bucket rest now c.args.self.now (number_of c.args.map) c.args.key (number_of-below c.args.map)
-    (some_at c.args.self.now (number_of c.args.map) c.args.key c.requires.there) has in (
+    let own = has_bucket rest now c.args.self.now (map_number c.args.map) c.args.key (map_number-below c.args.map)
+    (some_at c.args.self.now (map_number c.args.map) c.args.key c.requires.there) has in (
       (returns-in-Ok-clause-taken g c has.pages has.opens own.0 own.1).0 ∙ ap (λ o. is_some o) own.2,
-      has_changed rest now c.args.self.now _ (number_of c.args.map) c.args.key None (number_of-below c.args.map)
-          (some_at c.args.self.now (number_of c.args.map) c.args.key c.requires.there) refl refl has.whole
+      has_changed rest now c.args.self.now _ (map_number c.args.map) c.args.key None (map_number-below c.args.map)
+          (some_at c.args.self.now (map_number c.args.map) c.args.key c.requires.there) refl refl has.whole
           (returns-in-Ok-clause-memory g c).opens (λ pages was values content. (returns-in-Ok-clause-taken g c pages was values content).1)
           (returns-in-Ok-clause-others g c) has,
     )

@@ -17,8 +17,8 @@ use Rattle.bucket_store.proofs.Sound.{sound_bring}
 use Rattle.bucket_store.proofs.Writings.{still_then}
 use Rattle.bucket_store.proofs.Wholes.{brings_map, contents_then, gathered_all, none_more, place_low, read_same, read_then, reads_bucket}
 use Rattle.bucket_store.proofs.Wholes.{same_contents, some_later, some_more, sound_of, there_more}
-use Rattle.value_bytes.specs.StoreMap.{number_of}
-use Rattle.value_bytes.proofs.MapNumbers.{number_of-below}
+use Rattle.value_bytes.specs.StoreMap.{map_number}
+use Rattle.value_bytes.proofs.MapNumbers.{map_number-below}
 use Rattle.bucket_store.proofs.buckets.Buckets.whole.Goals as goal
 
 pub loop-bucket-preserved : goal.loop-bucket-preserved
@@ -28,7 +28,7 @@ loop-bucket-preserved g c =
     let old = c.args.self.now in
     let mid = c.loop-bucket.self in
     let new = c.add_bucket.new.self in
-    let which = number_of c.args.map in
+    let which = map_number c.args.map in
     let bucket = c.loop-bucket.bucket in
     let n = c.chain_of-n.result in
     let count : c.root-count.result.buckets ≡ bucket_count (chains_of old) = ap (λ (r : Root). r.buckets) c.root-count.ensures in
@@ -62,7 +62,7 @@ loop-bucket-init g c =
       same = looks_same self;
       stays = read_same self;
       contents = same_contents self;
-      reads = keys_none (λ m key. m ≡ (number_of c.args.map)) self;
+      reads = keys_none (λ m key. m ≡ (map_number c.args.map)) self;
       there = λ pages opened k less. absurd (omega (arith, less));
       some = λ pages opened key values has low. absurd (omega (arith, low));
       none = λ pages opened key high. ap (λ m. map.get m key) c.new-whole.ensures.empty ∙ map.get-empty nat_cmp key;
@@ -75,7 +75,7 @@ returns-in-Err-clause-whole g c =
     let old = c.args.self.now in
     let mid = c.loop-bucket.self in
     let new = c.add_bucket.new.self in
-    let which = number_of c.args.map in
+    let which = map_number c.args.map in
     let bucket = c.loop-bucket.bucket in
     let n = c.chain_of-n.result in
     let count : c.root-count.result.buckets ≡ bucket_count (chains_of old) = ap (λ (r : Root). r.buckets) c.root-count.ensures in
@@ -89,7 +89,7 @@ returns-in-Err-clause-whole g c =
           low (was.there pages opened) (done.only.brings.answers pages (was.contents.opens pages opened));
       sound = λ rest now has.
           sound_of (Unit {0}) BucketMap c.in-Err.fault
-          (sound_bring {T = Unit {0}} (Err c.in-Err.fault) rest now mid which bucket (number_of-below c.args.map)
+          (sound_bring {T = Unit {0}} (Err c.in-Err.fault) rest now mid which bucket (map_number-below c.args.map)
           (some_later old mid was.stays c.requires.ready.some)
           (λ pages opened. subst (λ (k : ℕ). BringsBucket {T = Unit {0}} pages mid k (Err c.in-Err.fault)) c.chain_of-n.ensures.chain
           (done.only.brings.answers pages opened))
@@ -130,8 +130,8 @@ returns-clause-whole g c =
     record {
       value = λ pages opened key values has. was.some pages opened key values has (omega (arith, low key, c.loop-bucket-test.false, count));
       found = λ rest now has.
-          gathered_all c.loop-bucket.whole (now.maps (number_of c.args.map)) (λ key.
-          let own = has_bucket rest now old (number_of c.args.map) key (number_of-below c.args.map) c.requires.ready.some has in
+          gathered_all c.loop-bucket.whole (now.maps (map_number c.args.map)) (λ key.
+          let own = has_bucket rest now old (map_number c.args.map) key (map_number-below c.args.map) c.requires.ready.some has in
           was.some has.pages has.opens key own.0 own.1 (omega (arith, low key, c.loop-bucket-test.false, count)) ∙ own.2);
       answers = λ pages opened. tt;
       sound = λ rest now has. tt;

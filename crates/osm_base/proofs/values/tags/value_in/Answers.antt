@@ -8,9 +8,9 @@ pub returns-then-eq : goal.returns-then-eq
 returns-then-eq c =
     let here : c.loop-span.span-index < length c.args.spans.now = omega arith in
     record {
-      value = ap (λ text. Some (chars text)) c.text_of-then-eq.ensures.bytes
+      value = ap (λ text. Some (chars text)) c.span_text-then-eq.ensures.bytes
           ∙ sym (find-here c.args.text.now c.args.key.now c.args.spans.now c.loop-span.span-index past_the_end
-          c.text_of.result.now c.text_of.ensures.bytes here c.utf8.key c.text_of.utf8 (sym c.eq.ensures ∙ c.if-eq.true))
+          c.span_text.result.now c.span_text.ensures.bytes here c.utf8.key c.span_text.utf8 (sym c.eq.ensures ∙ c.if-eq.true))
           ∙ c.loop-span.invariant;
     }
 
@@ -18,5 +18,5 @@ pub loop-span-preserved : goal.loop-span-preserved
 loop-span-preserved c =
     let here : c.loop-span.span-index < length c.args.spans.now = omega arith in
     find-later c.args.text.now c.args.key.now c.args.spans.now c.loop-span.span-index past_the_end
-    c.text_of.result.now c.text_of.ensures.bytes here c.utf8.key c.text_of.utf8 (sym c.eq.ensures ∙ c.if-eq.false)
+    c.span_text.result.now c.span_text.ensures.bytes here c.utf8.key c.span_text.utf8 (sym c.eq.ensures ∙ c.if-eq.false)
     ∙ c.loop-span.invariant

@@ -1,5 +1,5 @@
-use Rattle.placed_objects.proofs.Joined.{joined-empty}
+use Rattle.placed_objects.proofs.Joined.{joined_objects-empty}
 use Rattle.placed_objects.proofs.import.PlacedImport.new.Goals as goal
 
 pub returns : goal.returns
-returns c = record { empty = joined-empty c.new.result c.new-2.result c.new.ensures.empty c.new-2.ensures.empty }
+returns c = record { empty = joined_objects-empty c.new.result c.new-2.result c.new.ensures.empty c.new-2.ensures.empty }

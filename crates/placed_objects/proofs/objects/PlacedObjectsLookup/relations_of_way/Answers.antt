@@ -2,11 +2,11 @@ use Rattle.std.proofs.Common.{refl, sym, ap, ◌∙◌}
 use Rattle.osm_base.specs.declared.values.key.Kind.TheVariants as kinds
 use Rattle.osm_base.specs.map.Listers.{ids_of}
 use Rattle.osm_base.specs.map.Objects.{ObjectSet}
-use Rattle.placed_objects.proofs.Joined.{joined-lists}
+use Rattle.placed_objects.proofs.Joined.{joined_objects-lists}
 use Rattle.placed_objects.proofs.objects.PlacedObjectsLookup.relations_of_way.Goals as goal
 
 pub returns-clause-relations : goal.returns-clause-relations
 returns-clause-relations c =
     c.relations_of_way.ensures.relations
-    ∙ sym (joined-lists c.self.inside.places c.self.inside.others kinds.Relation kinds.Way c.args.id refl)
+    ∙ sym (joined_objects-lists c.self.inside.places c.self.inside.others kinds.Relation kinds.Way c.args.id refl)
     ∙ ap (λ (own : ObjectSet). ids_of kinds.Relation kinds.Way c.args.id own) c.self.view_is

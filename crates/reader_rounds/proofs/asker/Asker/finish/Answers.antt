@@ -4,7 +4,7 @@ use Rattle.map_query.specs.declared.query.Query.{Query}
 use Rattle.table_versions.specs.declared.answers.Answer.{Answer}
 use Rattle.reader_rounds.specs.Asking.{begin_of}
 use Rattle.reader_rounds.specs.Rounds.{AreServed}
-use Rattle.reader_rounds.specs.Settling.{HasLength, answered, settled_all, shut_rounds}
+use Rattle.reader_rounds.specs.Settling.{HasLength, answered, all_last_or_given, shut_rounds}
 use Rattle.reader_rounds.proofs.RoundLaws.{ok_as, whole_answered}
 use Rattle.reader_rounds.proofs.ServedLaws.{begins_all, served_open, served_shut}
 use Rattle.reader_rounds.proofs.asker.Asker.finish.Goals as goal
@@ -28,12 +28,12 @@ returns-in-None g c =
     let own = c.ask_last.ensures.answered style (begin_of last) c.args.rounds c.requires.asked c.in-None.is in
     let served = served_open style (begin_of last) last
     (begins_all last) tables c.args.version c.requires.tables c.requires.version queries c.args.rounds rounds own in
-    let settled = subst (λ (asked : List Query).
-    IfOk c.settle_rounds.result (λ given. given ≡ map (settled_all style tables c.args.version asked) rounds))
-    c.as_slice-queries.ensures.items c.settle_rounds.ensures.settled in
+    let last_or_given = subst (λ (asked : List Query).
+    IfOk c.settle_rounds.result (λ given. given ≡ map (all_last_or_given style tables c.args.version asked) rounds))
+    c.as_slice-queries.ensures.items c.settle_rounds.ensures.last_or_given in
     record {
-      served = ok_as c.settle_rounds.result (map (settled_all style tables c.args.version queries) rounds)
-          (AreServed style last queries c.args.rounds) settled served;
+      served = ok_as c.settle_rounds.result (map (all_last_or_given style tables c.args.version queries) rounds)
+          (AreServed style last queries c.args.rounds) last_or_given served;
     }
 
 pub returns-in-Some-Shut : goal.returns-in-Some-Shut

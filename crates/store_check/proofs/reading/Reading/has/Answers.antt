@@ -1,7 +1,7 @@
 -- What the bucket has is what the map has.
 use Rattle.std.proofs.Common.{Bool, refl, rules, ◌∙◌}
 use Rattle.std.specs.FinMap as finite
-use Rattle.value_bytes.specs.StoreMap.{number_of}
+use Rattle.value_bytes.specs.StoreMap.{map_number}
 use Rattle.row_store.proofs.LookLaws.{sound_err}
 use Rattle.store_check.proofs.FindsLaws.{peeks_as, peeks_told}
 use Rattle.store_check.proofs.ListsLaws.{is_there}
@@ -28,7 +28,7 @@ returns-in-Ok g c = record {
     so = λ rest has.
         let whole = c.in-Ok.ensures.brings.keeps.has (search rules) rest rest has in
         c.is_some.ensures
-        ∙ is_there c.value.result (finite.get (rest.maps (number_of c.args.map)) c.args.key) (c.value.ensures.found rest rest whole);
+        ∙ is_there c.value.result (finite.get (rest.maps (map_number c.args.map)) c.args.key) (c.value.ensures.found rest rest whole);
     has = λ rest has. c.in-Ok.ensures.brings.keeps.has (search rules) rest rest has;
     sound = λ rest has. tt;
     peeks = peeks_told (Unit {0}) Bool c.args.self.now.buckets.now c.bring.new.self tt c.is_some.result

@@ -1,7 +1,7 @@
 use Rattle.std.proofs.Common.{◌++◌, ◌∙◌, map, ap, sym}
 use Rattle.std.specs.List.{concat}
 use Rattle.std.proofs.lemmas.List.{append-nil}
-use Rattle.tag_rows.specs.RowsById.{text_of}
+use Rattle.tag_rows.specs.RowsById.{all_rows_text}
 use Rattle.tag_rows.proofs.RowMapLaws.{kept_text, texts_more, one_more}
 use Rattle.tag_rows.proofs.rows_by_id.RowsById.text.Goals as goal
 
@@ -29,5 +29,5 @@ returns c =
           c.loop-row.invariant.so_far
           ∙ ap concat (sym all ∙ c.into_iter-row-iterator.ensures.into_iter_gives ∙ c.values-row-items.ensures.rest)
           ∙ sym (kept_text c.self.inside.rows.entries c.values-row-items.ensures.ordered)
-          ∙ ap text_of c.self.view_is;
+          ∙ ap all_rows_text c.self.view_is;
     }

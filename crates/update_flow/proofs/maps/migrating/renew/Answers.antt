@@ -4,7 +4,7 @@ use Rattle.bucket_store.specs.Transaction.{chains_of}
 use Rattle.bucket_store.specs.Typed.{bucket_at}
 use Rattle.value_bytes.specs.Forms.{IsNoValue}
 use Rattle.middle_nodes.specs.Old.{IsOldPlace, old_bytes}
-use Rattle.value_bytes.specs.StoreMap.{number_of}
+use Rattle.value_bytes.specs.StoreMap.{map_number}
 use Rattle.value_bytes.specs.declared.store_map.StoreMap.TheVariants.{Nodes}
 use Rattle.std.proofs.Common.{◌≡◌}
 use Rattle.back_index.specs.Calls.{page_in}
@@ -22,10 +22,10 @@ returns-in-Ok-clause-renews g c =
 pub returns-in-Ok-clause-once : goal.returns-in-Ok-clause-once
 returns-in-Ok-clause-once g c =
     renews_once
-    (once_key (number_of Nodes) c.args.id c.args.buckets.now c.put.new.buckets c.put.result c.put.ensures.touches)
+    (once_key (map_number Nodes) c.args.id c.args.buckets.now c.put.new.buckets c.put.result c.put.ensures.touches)
     (λ rest now owns given.
     sound_result (Unit {0}) (λ at. IsNoValue old_bytes IsOldPlace c.args.bytes.now
-    × (at ≡ page_in c.args.buckets.now (number_of Nodes) c.args.id))
+    × (at ≡ page_in c.args.buckets.now (map_number Nodes) c.args.id))
     c.put.result
     (c.put.ensures.value.sound rest now owns))
 
@@ -33,10 +33,10 @@ pub returns-in-Err-clause-once : goal.returns-in-Err-clause-once
 returns-in-Err-clause-once g c =
     renews_once
     (value_once c.args.buckets.now c.refuse_value.new.buckets
-    (first_of (chains_of c.args.buckets.now) (bucket_at c.args.buckets.now (number_of Nodes) c.args.id))
+    (first_of (chains_of c.args.buckets.now) (bucket_at c.args.buckets.now (map_number Nodes) c.args.id))
     c.refuse_value.ensures.chains c.refuse_value.ensures.refused c.refuse_value.ensures.same c.in-Err.fault c.refuse_value.result
     c.refuse_value.ensures.refusal)
     (λ rest now owns given.
     refuses_value (IsNoValue old_bytes IsOldPlace c.args.bytes.now)
-    (page_in c.args.buckets.now (number_of Nodes) c.args.id) c.in-Err.fault c.refuse_value.result
+    (page_in c.args.buckets.now (map_number Nodes) c.args.id) c.in-Err.fault c.refuse_value.result
     c.refuse_value.ensures.refusal c.in-Err.ensures.refused)

@@ -1,6 +1,6 @@
 -- The records of a bucket are those of its nodes.
 use Rattle.std.proofs.Common.{rules, ◌≡◌, ◌%◌, ℕ, List, Ok, IfErr, refl, sym, subst}
-use Rattle.value_bytes.specs.StoreMap.{number_of}
+use Rattle.value_bytes.specs.StoreMap.{map_number}
 use Rattle.value_bytes.specs.declared.store_map.StoreMap.TheVariants.{Nodes}
 use Rattle.row_store.specs.Loading.{Among}
 use Rattle.row_store.proofs.LookLaws.{sound_err}
@@ -48,7 +48,7 @@ returns-clause-once g c =
         refused = done.refused;
         cause = record { later = done.cause.later; failed = λ is. absurd (cc) };
       };
-      reads = reads_bucket c.args.buckets.now c.records.new.self (number_of Nodes) c.args.bucket done.reads;
+      reads = reads_bucket c.args.buckets.now c.records.new.self (map_number Nodes) c.args.bucket done.reads;
     } in
     once_then c.args.buckets.now c.records.new.self c.renew_records.new.buckets c.renew_records.result first
     (once_of c.renew_records.ensures.once))

@@ -4,7 +4,7 @@ use Rattle.std.specs.FinMap as finite
 use Rattle.std.proofs.lemmas.List.{take_all}
 use Rattle.value_bytes.specs.Forms.{IsNoValue}
 use Rattle.middle_nodes.specs.Old.{IsOldPlace, old_bytes}
-use Rattle.value_bytes.specs.StoreMap.{number_of}
+use Rattle.value_bytes.specs.StoreMap.{map_number}
 use Rattle.value_bytes.specs.declared.store_map.StoreMap.TheVariants.{Nodes}
 use Rattle.row_store.specs.Loading.{Among}
 use Rattle.row_store.proofs.LoadLaws.{told_at}
@@ -37,7 +37,7 @@ loop-id-preserved g c =
       renews = λ rest now owns there.
           let was = inv.renews rest now owns there in
           let done = did.renews rest was.0 was.1 in
-          let here = told_at (λ (e : ℕ × List ℕ). finite.get (now.maps (number_of Nodes)) e.0 ≡ Some e.1) records c.loop-id.id-index one
+          let here = told_at (λ (e : ℕ × List ℕ). finite.get (now.maps (map_number Nodes)) e.0 ≡ Some e.1) records c.loop-id.id-index one
           there
           c.loop-id-test.true c.loop-id-item.is in (
             _,
@@ -58,10 +58,10 @@ returns-in-Err-clause-once g c =
     let mid = c.loop-id.buckets in
     let one = c.loop-id-item.result in
     let was = inv.renews rest now owns there in
-    let here = told_at (λ (e : ℕ × List ℕ). finite.get (now.maps (number_of Nodes)) e.0 ≡ Some e.1) c.args.records.now c.loop-id.id-index
+    let here = told_at (λ (e : ℕ × List ℕ). finite.get (now.maps (map_number Nodes)) e.0 ≡ Some e.1) c.args.records.now c.loop-id.id-index
     one there
     c.loop-id-test.true c.loop-id-item.is in
-    refuses_more (λ at. IsNoValue old_bytes IsOldPlace c.as_slice.result.now × (at ≡ page_in mid (number_of Nodes) one.0))
+    refuses_more (λ at. IsNoValue old_bytes IsOldPlace c.as_slice.result.now × (at ≡ page_in mid (map_number Nodes) one.0))
     (HasOldUnread (Among c.args.records.now) old now)
     (λ at bad. record {
       id = one.0;
@@ -69,7 +69,7 @@ returns-in-Err-clause-once g c =
       bytes = one.1;
       there = here;
       none = subst (λ (l : List ℕ). IsNoValue old_bytes IsOldPlace l) c.as_slice.ensures.items bad.0;
-      page_is = bad.1 ∙ page_same old mid (number_of Nodes) one.0 inv.once.looks.stays;
+      page_is = bad.1 ∙ page_same old mid (map_number Nodes) one.0 inv.once.looks.stays;
     }) c.in-Err.fault (c.in-Err.ensures.once.stops rest was.0 was.1 tt))
 
 pub returns-clause-renews : goal.returns-clause-renews

@@ -11,5 +11,5 @@ returns-clause-ok c =
     let lat = to_z-of_z w32 c.self.inside.lat (fits_lat c.self.inside.lon c.self.inside.lat c.self.invariant) in
     rw (← c.self.view_is)
     (c.in_ok-push_number.ensures.ok
-    ∙ ap (λ (n : ℕ). c.args.out.now.items ++ number_bytes n) (rw (lon, lat) at c.joined.ensures.number)
+    ∙ ap (λ (n : ℕ). c.args.out.now.items ++ number_bytes n) (rw (lon, lat) at c.place_number.ensures.number)
     ∙ ap (λ (l : List ℕ). c.args.out.now.items ++ l) (place_put (record { lon = c.self.inside.lon; lat = c.self.inside.lat }) c.self.invariant))
