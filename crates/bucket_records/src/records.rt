@@ -87,6 +87,15 @@ impl Records {
         self.marks.len()
     }
 
+    /// How many marks would have keys below this one, if keys rose evenly. A guess, where a search begins.
+    pub(crate) fn marks_below(&self, key: u64) -> usize {
+        let place = match key.checked_mul(self.count as u64) {
+            Some(scaled) => scaled.checked_div(self.last).unwrap_or(0),
+            None => 0,
+        };
+        place as usize / SPAN
+    }
+
     /// The number of the record at this mark, or at the last where there are fewer, and the bytes from it on. Before the first
     /// mark that is the first record.
     pub fn at_mark(&self, mark: usize) -> (usize, &[u8])

@@ -1,5 +1,5 @@
 //! Looking for a key, or a number, among records.
-ghost use Rattle.std.specs.Prelude.{◌≡◌, ◌+◌, ◌<◌, ◌≤◌, ℕ, length, drop};
+ghost use Rattle.std.specs.Prelude.{◌≡◌, ◌+◌, ◌^◌, ◌<◌, ◌≤◌, ℕ, length, drop};
 ghost use Rattle.bucket_records.specs.Places.{key_of, IsPlaceOf};
 ghost use Rattle.bucket_records.specs.Records.{records_bytes};
 
@@ -52,10 +52,13 @@ fn near(records: &Records, key: u64) -> (usize, &[u8])
     ensures rest { result.1.now ≡ records_bytes (drop result.0 records.now) }
 {
     let (mut place, mut rest) = records.at_mark(0);
+    let guess = records.marks_below(key);
+    let mut turn: u8 = 0;
     let mut low = 0;
     let mut high = records.marks();
     while low < high {
-        let middle = low + (high - low) / 2;
+        let middle = next_mark(low, high, guess, turn);
+        turn = turn.saturating_add(1);
         let (at, behind) = records.at_mark(middle + 1);
         let (own, _, _) = records.front(at, behind);
         if own < key {
@@ -67,4 +70,34 @@ fn near(records: &Records, key: u64) -> (usize, &[u8])
         }
     }
     (place, rest)
+}
+
+// Which mark between two ends is looked at next: those on both sides of where the key would stand if keys rose evenly, and then
+// the middle one, so that no keys make a search long.
+fn next_mark(low: usize, high: usize, guess: usize, turn: u8) -> usize
+    requires { low < high }
+    ensures low { low ≤ result }
+    ensures high { result < high }
+    ensures room { result + 1 < 2 ^ 64 }
+{
+    match turn {
+        0 => kept_between(low, high, guess.saturating_sub(1)),
+        1 => kept_between(low, high, guess),
+        _ => low + (high - low) / 2,
+    }
+}
+
+// The place, where it is between two ends, and else what comes next to it there.
+fn kept_between(low: usize, high: usize, place: usize) -> usize
+    requires { low < high }
+    ensures low { low ≤ result }
+    ensures high { result < high }
+{
+    if place < low {
+        low
+    } else if place < high {
+        place
+    } else {
+        high - 1
+    }
 }

@@ -11,7 +11,18 @@ use osm_base::OutOfMemory;
 use page_journal::PageSet;
 use std::alloc::Global;
 
-/// Puts the pages of these chains, without those that stay.
+/// Puts the pages of these chains, without those that stay. Each chain is let go once its pages are there, so that its bytes do
+/// not stand beside those of all pages.
+pub fn put_whole(alloc: Global, set: &mut PageSet, laid: Vec<Laid>) -> Result<(), OutOfMemory>
+    ensures put { OnOk result (set.new ≡ puts set.old (laid_pairs laid.items)) }
+{
+    for one in laid {
+        put_laid(alloc, set, &one)?;
+    }
+    Ok(())
+}
+
+/// The same of chains that are wanted from then on.
 pub fn put_all(alloc: Global, set: &mut PageSet, laid: &[Laid]) -> Result<(), OutOfMemory>
     ensures put { OnOk result (set.new ≡ puts set.old (laid_pairs laid.now)) }
 {

@@ -6,7 +6,7 @@ ghost use Rattle.chain_store.specs.Parts.{growth, head_or, laid_all};
 
 use crate::firsts::{fill_all, head_of, put_firsts, put_number};
 use crate::gathering::directory_parts;
-use crate::laying::{Chain, put_all, put_chain};
+use crate::laying::{Chain, put_all, put_chain, put_whole};
 use crate::layout::{
     BUCKETS_AT, CHANGES_AT, FIRSTS_AT, FORMAT_AT, FREE, FREE_AT, HOME_AT, STATE_AT,
 };
@@ -126,25 +126,37 @@ impl Dealt {
         Ok(page)
     }
 
-    /// The pages that are written, this root page among them.
-    pub fn set(&self, alloc: Global, front: Vec<u8>) -> Result<PageSet, OutOfMemory>
+    /// The pages that are written, this root page among them, and the directories.
+    pub fn into_set(
+        self,
+        alloc: Global,
+        front: Vec<u8>,
+    ) -> Result<(PageSet, Vec<Laid>), OutOfMemory>
         requires { length front.items ≡ 4096 }
-        ensures { IfOk result (λ set. set
-            ≡ set_of self.now.chains.items self.now.directories.items self.now.left.items self.now.tail front.items) }
+        ensures set { IfOk result (λ (set, directories). set
+            ≡ set_of self.chains.items self.directories.items self.left.items self.tail front.items) }
+        ensures directories { IfOk result (λ (set, directories). directories.items ≡ self.directories.items) }
     {
+        let Dealt {
+            chains,
+            directories,
+            left,
+            tail,
+            end: _,
+        } = self;
         let mut set = PageSet::new(alloc);
-        put_all(alloc, &mut set, &self.chains)?;
-        put_all(alloc, &mut set, &self.directories)?;
+        put_whole(alloc, &mut set, chains)?;
+        put_all(alloc, &mut set, &directories)?;
         let free = Chain {
             owner: FREE,
-            tail: self.tail,
-            pages: self.left.as_slice(),
+            tail,
+            pages: left.as_slice(),
             old: &[],
             same: &[],
         };
         put_chain(alloc, &mut set, &free, &[])?;
         set.put_owned(1, front)?;
-        Ok(set)
+        Ok((set, directories))
     }
 }
 
@@ -177,9 +189,9 @@ impl Plan {
         let dealt = Dealt::of(alloc, parts, bases, count, free, home)?;
         let page = dealt.root_page(alloc, kept.front(), root)?;
         let front = Vec::from_slice(alloc, &page)?;
-        let set = dealt.set(alloc, page)?;
         let home = dealt.end;
-        let directories = directories_of(alloc, dealt.directories)?;
+        let (set, laid) = dealt.into_set(alloc, page)?;
+        let directories = directories_of(alloc, laid)?;
         Ok(Plan {
             set,
             home,

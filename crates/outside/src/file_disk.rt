@@ -6,8 +6,9 @@ ghost use Rattle.outside.specs.FileDisk.{silent};
 
 use crate::{Disk, Failed, MAX_LEN};
 use std::fs::{self, File, OpenFile, OpenOptions};
-use std::io::{self, ErrorKind, Read, Seek, SeekFrom, Write};
+use std::io::{self, ErrorKind};
 use std::marker::Model;
+use std::os::unix::fs::FileExt;
 use std::path::Path;
 use std::rt::Files;
 
@@ -30,8 +31,6 @@ struct NamedFile<'p, R: Files> {
     bar: Option<Bar>,
     named: bool,
     open: Option<R::File>,
-    // Where the next call of the system reads or writes, if that is known.
-    place: Option<u64>,
 }
 
 /// A byte of a file, and the value of it that means that the file has to be written before it is read.
@@ -83,7 +82,6 @@ impl<'p, R: Files> NamedFile<'p, R> {
             bar,
             named: !make,
             open: None,
-            place: None,
         }
     }
 }
@@ -118,11 +116,10 @@ impl<R: Files<File = File> + Drop> NamedFile<'_, R> {
 
     // The file beside others that only look, unless it has to be written first.
     fn beside(&self, bar: Bar) -> io::Result<Option<File>> {
-        let mut file = fs::open(&self.rt, self.path)?;
+        let file = fs::open(&self.rt, self.path)?;
         file.try_lock_shared()?;
-        file.seek(SeekFrom::Start(bar.at))?;
         let mut byte = [0];
-        if fill(&mut file, &mut byte)? == 1 && byte == [bar.value] {
+        if file.read_at(&mut byte, bar.at)? == 1 && byte == [bar.value] {
             return Ok(None);
         }
         Ok(Some(file))
@@ -154,35 +151,21 @@ impl<R: Files<File = File> + Drop> NamedFile<'_, R> {
         Ok(len)
     }
 
-    // The file goes on at this place: neighbouring pages need no seek between them.
-    fn go_to(&mut self, at: u64) -> io::Result<()> {
-        self.begin()?;
-        if self.place.take() != Some(at) {
-            let open = self.open.as_mut().ok_or(closed())?;
-            open.seek(SeekFrom::Start(at))?;
-        }
-        Ok(())
-    }
-
     fn try_read(&mut self, at: u64, buf: &mut [u8]) -> io::Result<usize>
         requires { at + length buf.old ≤ 2 ^ 62 }
         ensures bound { IfOk result (λ count. count ≤ length buf.old) }
     {
-        self.go_to(at)?;
-        let open = self.open.as_mut().ok_or(closed())?;
-        let count = fill(open, buf)?;
-        self.place = Some(at + count as u64);
-        Ok(count)
+        self.begin()?;
+        let open = self.open.as_ref().ok_or(closed())?;
+        fill(open, at, buf)
     }
 
     fn try_write(&mut self, at: u64, piece: &[u8]) -> io::Result<()>
         requires { at + length piece.now ≤ 2 ^ 62 }
     {
-        self.go_to(at)?;
-        let open = self.open.as_mut().ok_or(closed())?;
-        open.write_all(piece)?;
-        self.place = Some(at + piece.len() as u64);
-        Ok(())
+        self.begin()?;
+        let open = self.open.as_ref().ok_or(closed())?;
+        open.write_all_at(piece, at)
     }
 
     fn try_sync(&mut self) -> io::Result<()> {
@@ -198,13 +181,14 @@ fn closed() -> io::Error {
     ErrorKind::NotFound.into()
 }
 
-// Reads until the buffer is full or the file ends.
-fn fill<F: Read>(open: &mut F, buf: &mut [u8]) -> io::Result<usize>
+// Reads from this place on until the buffer is full or the file ends.
+fn fill(open: &File, at: u64, buf: &mut [u8]) -> io::Result<usize>
+    requires { at + length buf.old ≤ 2 ^ 62 }
     ensures bound { IfOk result (λ count. count ≤ length buf.old) }
 {
     let mut filled = 0;
     while filled < buf.len() {
-        let count = open.read(&mut buf[filled..])?;
+        let count = open.read_at(&mut buf[filled..], at + filled as u64)?;
         if count == 0 {
             break;
         }

@@ -51,9 +51,10 @@ fn kept_between(low: usize, high: usize, place: usize) -> usize
     }
 }
 
-/// How far behind the first of `steps + 1` ids an id stands, if these rise evenly. `None`: they do not rise as far as it.
+/// How far behind the first of `steps + 1` ids an id stands, if these rise evenly; one below the first stands where that one does.
+/// `None`: they do not rise.
 fn steps_to(first: u64, last: u64, id: u64, steps: usize) -> Option<usize> {
-    let ahead = id.checked_sub(first)?;
+    let ahead = id.saturating_sub(first);
     let span = last.checked_sub(first)?;
     let place = ahead.checked_mul(steps as u64)?.checked_div(span)?;
     usize::try_from(place).ok()

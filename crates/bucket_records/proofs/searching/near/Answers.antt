@@ -6,7 +6,7 @@ use Rattle.bucket_records.proofs.searching.near.Goals as goal
 pub loop-low-preserved-then-own-key : goal.loop-low-preserved-then-own-key
 loop-low-preserved-then-own-key c =
     let some = c.loop-low.invariant.4 (omega (arith, c.loop-low-test.true)) in (
-      omega (arith, c.loop-low-test.true),
+      omega (arith, c.next_mark-middle.ensures.high),
       c.at_mark-at.ensures.within,
       c.at_mark-at.ensures.rest,
       λ k low.

@@ -64,6 +64,7 @@ of-requires-2-clause-eight c =
     c.in_ok-bases.ensures (ap (λ (root : Root). root.buckets) c.root.ensures.root) c.directories.ensures in
     sym (length-map c.in_ok-directories.directories.items (λ (one : Walked). one.pages.items))
     ∙ ap (λ (l : List (List ℕ)). length l) c.in_ok-directories.ensures.pages
+    ∙ ap (λ (l : List Laid). length (map (λ (one : Laid). one.pages) l)) c.in_ok-set.ensures.directories
     ∙ length-map c.in_ok-dealt.dealt.directories.items (λ (one : Laid). one.pages)
     ∙ eight kept buckets c.args.home c.args.parts.items c.in_ok-bases.bases.items c.args.free.now c.in_ok-dealt.dealt is
     c.in_ok-dealt.ensures
@@ -106,7 +107,7 @@ of-requires-2-clause-long c = λ m below.
     (head_or c.in_ok-dealt.dealt.left.items c.in_ok-dealt.dealt.tail)
     c.in_ok-dealt.dealt.chains.items c.in_ok-dealt.dealt.directories.items c.args.kept.now.page (omega (arith, c.requires)) in
     ap (λ (l : List ℕ). length l) (bytes_from c.in_ok-directories.directories.items c.in_ok-dealt.dealt.directories.items m
-    c.in_ok-directories.ensures.bytes)
+    (c.in_ok-directories.ensures.bytes ∙ ap (λ (l : List Laid). map (λ (one : Laid). one.bytes) l) c.in_ok-set.ensures.directories))
     ∙ long kept buckets c.args.home c.args.parts.items c.in_ok-bases.bases.items c.args.free.now c.in_ok-dealt.dealt is
     c.in_ok-dealt.ensures m below
     ∙ ap (λ (n : ℕ). 8 * n) (sym count_is)
@@ -125,7 +126,7 @@ returns c =
       dealt = c.in_ok-dealt.dealt;
       is = whole kept buckets c.args.home c.args.parts.items c.in_ok-bases.bases.items c.args.free.now c.in_ok-dealt.dealt is
           c.in_ok-dealt.ensures;
-      set_is = c.in_ok-set.ensures
+      set_is = c.in_ok-set.ensures.set
           ∙ ap (λ (l : List ℕ). set_of dealt.chains.items dealt.directories.items dealt.left.items dealt.tail l) (sym front_is);
       front_is = front_is ∙ c.in_ok-page.ensures.page
           ∙ ap (λ (l : List ℕ). root_bytes l c.args.root.now dealt.«end»
@@ -135,7 +136,9 @@ returns c =
       small = c.in_ok-page.ensures.small;
       long = c.of-2.result.page;
       pages_are = ap (λ (ws : List Walked). map (λ (one : Walked). one.pages.items) ws) c.of-2.ensures.directories
-          ∙ c.in_ok-directories.ensures.pages;
+          ∙ c.in_ok-directories.ensures.pages
+          ∙ ap (λ (l : List Laid). map (λ (one : Laid). one.pages) l) c.in_ok-set.ensures.directories;
       bytes_are = ap (λ (ws : List Walked). map (λ (one : Walked). one.bytes.items) ws) c.of-2.ensures.directories
-          ∙ c.in_ok-directories.ensures.bytes;
+          ∙ c.in_ok-directories.ensures.bytes
+          ∙ ap (λ (l : List Laid). map (λ (one : Laid). one.bytes) l) c.in_ok-set.ensures.directories;
     }
