@@ -33,7 +33,7 @@ pub fn copied(alloc: Global, answer: &mut String, given: &str) -> Result<bool, A
 
 /// Adds the number that the row of an object has in a table with a source, of a row `SOURCE KIND:ID`.
 pub fn number(alloc: Global, answer: &mut String, given: &str) -> Result<bool, AllocError> {
-    match number_in(alloc, given) {
+    match row_number_in(alloc, given) {
         Some(number) => {
             let digits = format!(in alloc; "{number}")?;
             answer.push_str(digits.as_str())?;
@@ -44,7 +44,7 @@ pub fn number(alloc: Global, answer: &mut String, given: &str) -> Result<bool, A
 }
 
 /// The number that the row of an object has in a table with a source.
-fn number_in(alloc: Global, given: &str) -> Option<i64> {
+fn row_number_in(alloc: Global, given: &str) -> Option<i64> {
     let (source, word) = named_row(given)?;
     let key = key_of(word)?;
     let style = style_of(alloc, source)?;

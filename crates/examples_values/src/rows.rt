@@ -3,11 +3,12 @@ ghost use Rattle.store_maps.specs.Rows.{AreKept};
 
 use crate::hex::{none, told};
 use osm_base::{Cell, OutOfMemory, Row, TableRow, TableRows};
-use row_store::{read_row, read_rows, row_bytes, rows_bytes};
+use row_store::{read_rows, rows_bytes};
 use row_text::push_geometry;
 use std::alloc::{AllocError, Global};
+use store_maps::columns_of;
 use style_read::{Style, StyleFault, read_style};
-use value_bytes::ValueFault;
+use value_bytes::{ValueFault, read_row, row_bytes};
 
 /// A style with three tables, of no column, of one and of two.
 const STYLE: &str =
@@ -36,10 +37,11 @@ fn row_by(
     table: u32,
     bytes: &[u8],
 ) -> Result<Option<String>, OutOfMemory> {
-    if table as usize >= style.tables.as_slice().len() {
+    let tables = style.tables.as_slice();
+    if table as usize >= tables.len() {
         return Ok(None);
     }
-    match read_row(alloc, style, table, bytes) {
+    match read_row(alloc, columns_of(tables, table as usize), bytes) {
         Ok(row) => row_again(alloc, &row, bytes),
         Err(ValueFault::NotSpelled) => none(alloc),
         Err(ValueFault::OutOfMemory) => Err(OutOfMemory),

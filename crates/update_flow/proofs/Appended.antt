@@ -20,7 +20,7 @@ use Rattle.update_flow.specs.maps.Calls.{IsAllowed}
 use Rattle.update_flow.specs.maps.Held.{Beside, HasMaps}
 use Rattle.update_flow.specs.Due.{both, due_between}
 use Rattle.update_flow.specs.Ids.{AreIdEntries}
-use Rattle.update_flow.specs.Settling.{with_due}
+use Rattle.update_flow.specs.Settling.{committed_due}
 use Rattle.update_flow.specs.Stands.{IsImported}
 use Rattle.update_flow.specs.State.{Append, Holding, imported}
 use Rattle.update_flow.specs.Turning.{CommitsWith, EndsIn, TurnsIn, limit_in}
@@ -48,7 +48,7 @@ module _ {D : Type 0} {g : Ghosts D} (held : Holding) (rest : Image) (is : IsImp
 
   module _ (limits : LimitNumbers) (bounds : BoundsOf) (change : List Entry) (number : ℕ) (old mid last new : Buckets D g)
       (looked : OnlyLooks old mid) (later : OnlyLooks mid last) (due : List Run) (fault : Option FlowFault)
-      (commits : CommitsWith (with_due number due) fault last new) where
+      (commits : CommitsWith (committed_due number due) fault last new) where
     -- all is committed, or nothing
     pub append_turns : (own : StyleOf) (before : List Run) (told : List RowChange) → own ≡ style → Has rest rest old
         → limit_in old ≡ limits.pages → held.changes + 1 ≡ number → number ≤ LAST_CHANGE
@@ -79,7 +79,7 @@ module _ {D : Type 0} {g : Ghosts D} (held : Holding) (rest : Image) (is : IsImp
 
 -- whatever the store holds
 pub append_ends : {D : Type 0} {g : Ghosts D} (bounds : BoundsOf) (change : List Entry) (number : ℕ) (old mid last new : Buckets D g)
-    (due : List Run) (fault : Option FlowFault) → OnlyLooks old mid → OnlyLooks mid last → CommitsWith (with_due number due) fault last new
+    (due : List Run) (fault : Option FlowFault) → OnlyLooks old mid → OnlyLooks mid last → CommitsWith (committed_due number due) fault last new
     → EndsIn (Some (Append bounds change)) fault old new
 append_ends bounds change number old mid last new due fault looked later commits =
     ends_then fault old last new (looks_then old mid last looked later) (commits.ends (Append bounds change))

@@ -16,7 +16,7 @@ use Rattle.update_flow.proofs.MapsKept.{kept_same}
 use Rattle.update_flow.specs.Due.{Tiles, no_tiles}
 use Rattle.update_flow.specs.Stands.{IsImported}
 use Rattle.update_flow.specs.State.{Holding, cleared}
-use Rattle.update_flow.specs.Settling.{counted_to, with_due}
+use Rattle.update_flow.specs.Settling.{counted_to, committed_due}
 use Rattle.update_flow.specs.declared.fault.TheConstants.{LAST_CHANGE}
 use Rattle.update_flow.specs.declared.fields.TheConstants.{DUE_TEXT, STYLE_TEXT}
 
@@ -107,7 +107,7 @@ objects_become held rest now maps objects is root texts kept stand ids = record 
 -- so many changes, and these due tiles
 pub settled_becomes : (held : Holding) (image : Image) (runs : List Run) (due : Tiles) (number : ℕ) → IsImported held image → IsTileSet runs
     → ((zoom x y : ℕ) → has runs zoom x y ≡ due zoom x y) → number ≤ LAST_CHANGE
-    → IsImported (with_changes number (with_due due held)) (with_due number runs image)
+    → IsImported (with_changes number (with_due due held)) (committed_due number runs image)
 settled_becomes held image runs due number is set tiles counted =
     count_becomes (with_due due held) (with_text DUE_TEXT (set_bytes runs) image) (counted_to number image.root) number
     (due_becomes held image runs due is set tiles) counted

@@ -27,7 +27,7 @@ use Rattle.update_flow.specs.Faults.{of_store}
 use Rattle.update_flow.specs.Handle.{Handle, IsOpen, Takes, changes_of, is_follower, is_imported, is_old, is_whole, limits_of, style_of, view_of}
 use Rattle.update_flow.specs.Ids.{AreIdEntries}
 use Rattle.update_flow.specs.Refusals.{MayAnswer, RefusesChange}
-use Rattle.update_flow.specs.Settling.{with_due}
+use Rattle.update_flow.specs.Settling.{committed_due}
 use Rattle.update_flow.specs.Stands.{IsImported}
 use Rattle.update_flow.specs.State.{Append, Holding, State, changed, formatted, imported, outdated, following}
 use Rattle.update_flow.specs.Steps.{of_step}
@@ -71,11 +71,11 @@ pub append_becomes : {D : Type 0} {g : Ghosts D} (held : Holding) (rest : Image)
     → ((zoom x y : ℕ) → has runs zoom x y ≡ both held.due
     (due_between held.style bounds held.objects (folded_all held.objects change)) zoom x y)
     → held.changes + 1 ≡ number → number ≤ LAST_CHANGE → AreIdEntries change
-    → IsImported (changed bounds change held) (with_due number runs kept.now)
+    → IsImported (changed bounds change held) (committed_due number runs kept.now)
 append_becomes held rest bounds change number runs after buckets is kept stand set tiles next counted ids =
     let objects : ObjectSet = folded_all held.objects change in
     let due : Tiles = both held.due (due_between held.style bounds held.objects objects) in
-    subst (λ (n : ℕ). IsImported (with_changes n (with_due due (with_objects objects held))) (with_due number runs kept.now)) (sym next)
+    subst (λ (n : ℕ). IsImported (with_changes n (with_due due (with_objects objects held))) (committed_due number runs kept.now)) (sym next)
     (settled_becomes (with_objects objects held) kept.now runs due number
     (objects_become held rest kept.now after objects is kept.root kept.texts kept.kept stand (ids_folded change held.objects is.ids ids))
     set tiles counted)

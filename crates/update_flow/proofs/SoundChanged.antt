@@ -48,7 +48,7 @@ use Rattle.update_step.specs.Unknown.{IsLeft, IsUnknown, KeepsKnown, StandsKnown
 use Rattle.page_journal.specs.declared.fault.StoreFault.{StoreFault}
 use Rattle.update_flow.specs.Ids.{AreIdEntries}
 use Rattle.update_flow.specs.Refusals.{Refuses}
-use Rattle.update_flow.specs.Settling.{counted_to, with_due}
+use Rattle.update_flow.specs.Settling.{counted_to, committed_due}
 use Rattle.update_flow.specs.Sound.{IsSoundImport}
 use Rattle.update_flow.specs.SoundTurns.{TurnsSound, changed_with}
 use Rattle.update_flow.specs.State.{Append, Holding, imported}
@@ -208,7 +208,7 @@ module _ (held : Holding) (rest now : Image) (is : IsSoundImport held rest) (roo
   abbrev fields : Root
   fields = counted_to number now.root
 
-  pub settled_sound : IsSoundImport (record held { objects = objects; changes = number; due = has runs }) (with_due number runs now)
+  pub settled_sound : IsSoundImport (record held { objects = objects; changes = number; due = has runs }) (committed_due number runs now)
   settled_sound = record {
     root = root_with_root fields with_tiles ∙ ap (λ (r : Root). counted_to number r) (root ∙ is.root);
     counted = counted;
@@ -229,7 +229,7 @@ module _ (held : Holding) (rest now : Image) (is : IsSoundImport held rest) (roo
     ids = ids;
     maps = record {
       maps = sound.maps;
-      kept = kept_same held.style.tables with_tiles.maps (with_due number runs now).maps sound.maps
+      kept = kept_same held.style.tables with_tiles.maps (committed_due number runs now).maps sound.maps
           (λ m. maps_with_root fields with_tiles m)
           (kept_same held.style.tables now.maps with_tiles.maps sound.maps (λ m. maps_with_text DUE_TEXT (set_bytes runs) now m) sound.kept);
       own = sound.own;
@@ -254,7 +254,7 @@ module _ {D : Type 0} {g : Ghosts D} (held : Holding) (rest : Image) (is : IsSou
 
   module _ (style : StyleOf) (alike : held.style ≡ style) (limits : LimitNumbers) (bounds : BoundsOf) (change : List Entry) (number : ℕ)
       (old mid last new : Buckets D g) (looked : OnlyLooks old mid) (later : OnlyLooks mid last) (due : List Run)
-      (fault : Option FlowFault) (commits : CommitsWith (with_due number due) fault last new) where
+      (fault : Option FlowFault) (commits : CommitsWith (committed_due number due) fault last new) where
     -- all is committed, or nothing
     pub sound_turns : (style_now : StyleOf) (told : List RowChange) → style_now ≡ style → Has rest rest old → limit_in old ≡ limits.pages
         → held.changes + 1 ≡ number → number ≤ LAST_CHANGE → IsTileSet due → AreIdEntries change
@@ -269,8 +269,8 @@ module _ {D : Type 0} {g : Ghosts D} (held : Holding) (rest : Image) (is : IsSou
         let stands : StandsKnown held.style after objects =
         subst (λ (s : StyleOf). StandsKnown s after objects) (sym alike) done.stands.2 in
         let sound = stays_sound held.style held.objects rest is.maps kept.now after objects stands done.stands.3 kept.kept in
-        let becomes : IsSoundImport (changed_with (has due) change held) (with_due number due kept.now) =
-        subst (λ (n : ℕ). IsSoundImport (record held { objects = objects; changes = n; due = has due }) (with_due number due kept.now))
+        let becomes : IsSoundImport (changed_with (has due) change held) (committed_due number due kept.now) =
+        subst (λ (n : ℕ). IsSoundImport (record held { objects = objects; changes = n; due = has due }) (committed_due number due kept.now))
         (sym next)
         (settled_sound held rest kept.now is kept.root kept.texts objects sound (ids_folded change held.objects is.ids ids) due set number
         counted) in
@@ -279,6 +279,6 @@ module _ {D : Type 0} {g : Ghosts D} (held : Holding) (rest : Image) (is : IsSou
           (λ last. absurd (omega (arith, last, next, counted))),
           (λ set pending. done.few set (subst (λ (s : StyleOf). IsPendingOf s held.objects change set) alike pending)),
         ) in
-        sound_committed limits (imported held) (Append bounds change) rest is fault (with_due number due kept.now)
+        sound_committed limits (imported held) (Append bounds change) rest is fault (committed_due number due kept.now)
         (imported (changed_with (has due) change held)) old last new (rests_under rest rest old had) looks becomes (has due, refl) may
         (commits.commits limits rest kept.now (looks.looked.limit ∙ same) kept.has)

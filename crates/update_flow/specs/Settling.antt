@@ -11,8 +11,8 @@ abbrev pub counted_to : ℕ → Root → Root
 counted_to number root = record { format = root.format; state = root.state; changes = number; buckets = root.buckets }
 
 -- a store with so many changes and these due tiles
-abbrev pub with_due : ℕ → List Run → Image → Image
-with_due number runs image = with_root (counted_to number image.root) (with_text DUE_TEXT (set_bytes runs) image)
+abbrev pub committed_due : ℕ → List Run → Image → Image
+committed_due number runs image = with_root (counted_to number image.root) (with_text DUE_TEXT (set_bytes runs) image)
 
 -- the fields of a store with so many buckets that was just imported
 abbrev pub fresh_root : ℕ → Root

@@ -3,7 +3,7 @@ ghost use Rattle.std.specs.Prelude.{◌≡◌, OnOk};
 ghost use Rattle.std.specs.Result.{result_err};
 ghost use Rattle.bucket_store.specs.Image.{Has, Image};
 ghost use Rattle.update_flow.specs.Reads.{ReadsToCommit};
-ghost use Rattle.update_flow.specs.Settling.{with_due};
+ghost use Rattle.update_flow.specs.Settling.{committed_due};
 ghost use Rattle.update_flow.specs.Turning.{CommitsWith};
 ghost use Rattle.update_flow.specs.Within.{IsGoing};
 ghost use Rattle.update_flow.specs.declared.fields.TheConstants.{DUE_TEXT};
@@ -25,7 +25,7 @@ pub(crate) fn commit_due<D: Disk>(
     number: u64,
 ) -> Result<(), FlowFault>
     requires ready { IsGoing buckets.old }
-    ensures commits { CommitsWith (with_due number due.now) (result_err result) buckets.old buckets.new }
+    ensures commits { CommitsWith (committed_due number due.now) (result_err result) buckets.old buckets.new }
     ensures reads { OnOk result ((rest now : Image) → Has rest now buckets.old → ReadsToCommit (λ n. n ≡ DUE_TEXT) buckets.old buckets.new) }
 {
     match store_due(alloc, buckets, due) {

@@ -6,7 +6,7 @@ use Rattle.chain_store.specs.declared.root.Root.{Root}
 use Rattle.bucket_store.specs.Image.{Has, with_root, with_text}
 use Rattle.bucket_store.proofs.Holding.{looks_then, rests_under}
 use Rattle.bucket_store.proofs.Images.{root_with_text}
-use Rattle.update_flow.specs.Settling.{counted_to, with_due}
+use Rattle.update_flow.specs.Settling.{counted_to, committed_due}
 use Rattle.update_flow.specs.declared.fields.TheConstants.{DUE_TEXT}
 use Rattle.update_flow.proofs.Turning.{commits_after, commits_refused, ends_then, runs_ended}
 use Rattle.update_flow.proofs.ReadLaws.{ok_then, reads_before, reads_root, wider_commit}
@@ -24,9 +24,9 @@ returns-in-Ok-clause-commits g c = record {
       let looks = looks_then c.args.buckets.now c.store_due.new.buckets c.set_root.new.self c.in-Ok.ensures.stores.runs.looks
       c.set_root.ensures.fields.same in
       commits_after limits (result_err c.finish.result) rest
-      (with_due c.args.number c.args.due.now now) c.args.buckets.now c.set_root.new.self c.finish.new.buckets
+      (committed_due c.args.number c.args.due.now now) c.args.buckets.now c.set_root.new.self c.finish.new.buckets
       (rests_under rest now c.args.buckets.now has) looks
-      (c.finish.ensures.commits.commits limits rest (with_due c.args.number c.args.due.now now) (looks.looked.limit ∙ same)
+      (c.finish.ensures.commits.commits limits rest (committed_due c.args.number c.args.due.now now) (looks.looked.limit ∙ same)
       (subst (λ (r : Root). Has rest (with_root r text) c.set_root.new.self) root rooted));
   ends = λ step.
       ends_then (result_err c.finish.result) c.args.buckets.now c.set_root.new.self c.finish.new.buckets
@@ -37,7 +37,7 @@ returns-in-Ok-clause-commits g c = record {
 pub returns-in-Err-clause-commits : goal.returns-in-Err-clause-commits
 returns-in-Err-clause-commits g c = record {
   commits = λ limits rest now same has.
-      commits_refused limits c.in-Err.fault rest (with_due c.args.number c.args.due.now now) c.args.buckets.now c.store_due.new.buckets
+      commits_refused limits c.in-Err.fault rest (committed_due c.args.number c.args.due.now now) c.args.buckets.now c.store_due.new.buckets
       (rests_under rest now c.args.buckets.now has) c.in-Err.ensures.stores.runs.looks (c.in-Err.ensures.stores.sound rest now has);
   ends = λ step. runs_ended _ c.args.buckets.now c.store_due.new.buckets c.in-Err.ensures.stores.runs;
 }
