@@ -1,4 +1,4 @@
-/* Does the calls of a list on a file and nothing else: r COUNT reads into fresh memory, w COUNT writes, l PLACE seeks and f syncs.
+/* Does the calls of a list on a file and nothing else: r COUNT PLACE reads into fresh memory, w COUNT PLACE writes and f 0 0 syncs.
    Prints the microseconds. */
 #include <fcntl.h>
 #include <stdio.h>
@@ -6,14 +6,14 @@
 #include <time.h>
 #include <unistd.h>
 
-struct call { char kind; long many; };
+struct call { char kind; long many, place; };
 
 int main(int count, char **words) {
     static struct call calls[1 << 20];
     size_t all = 0, room = 0, most = 0;
     if (count != 3) return 1;
     FILE *list = fopen(words[2], "r");
-    while (list && all < 1 << 20 && fscanf(list, " %c %ld", &calls[all].kind, &calls[all].many) == 2) {
+    while (list && all < 1 << 20 && fscanf(list, " %c %ld %ld", &calls[all].kind, &calls[all].many, &calls[all].place) == 3) {
         if (calls[all].kind == 'r') room += calls[all].many;
         if (calls[all].kind == 'w' && calls[all].many > (long)most) most = calls[all].many;
         all++;
@@ -24,11 +24,10 @@ int main(int count, char **words) {
     if (!list || file < 0 || !fresh || !piece) return 1;
     clock_gettime(CLOCK_MONOTONIC, &start);
     for (size_t at = 0; at < all; at++) {
-        long many = calls[at].many;
+        long many = calls[at].many, place = calls[at].place;
         switch (calls[at].kind) {
-        case 'r': if (read(file, fresh, many) != many) return 1; fresh += many; break;
-        case 'w': if (write(file, piece, many) != many) return 1; break;
-        case 'l': if (lseek(file, many, SEEK_SET) != many) return 1; break;
+        case 'r': if (pread(file, fresh, many, place) != many) return 1; fresh += many; break;
+        case 'w': if (pwrite(file, piece, many, place) != many) return 1; break;
         case 'f': if (fdatasync(file)) return 1; break;
         }
     }
