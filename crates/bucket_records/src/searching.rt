@@ -81,23 +81,8 @@ fn next_mark(low: usize, high: usize, guess: usize, turn: u8) -> usize
     ensures room { result + 1 < 2 ^ 64 }
 {
     match turn {
-        0 => kept_between(low, high, guess.saturating_sub(1)),
-        1 => kept_between(low, high, guess),
+        0 => guess.saturating_sub(1).max(low).min(high - 1),
+        1 => guess.max(low).min(high - 1),
         _ => low + (high - low) / 2,
-    }
-}
-
-// The place, where it is between two ends, and else what comes next to it there.
-fn kept_between(low: usize, high: usize, place: usize) -> usize
-    requires { low < high }
-    ensures low { low ≤ result }
-    ensures high { result < high }
-{
-    if place < low {
-        low
-    } else if place < high {
-        place
-    } else {
-        high - 1
     }
 }

@@ -2,7 +2,7 @@
 use Rattle.std.proofs.Common.{◌≡◌, ℕ, zero, suc, ◌<◌, ◌≤◌, ◌==◌, false, List, [], ◌∷◌, ◌++◌, length, take, drop, refl, ap, ◌∙◌, arith, append_assoc, sym}
 use Rattle.std.proofs.lemmas.Bool.{false≢true}
 use Rattle.std.proofs.lemmas.List.{length-drop}
-use Rattle.delta_feed.specs.Text.{ended_line, more_line, more_lines, lines_text}
+use Rattle.delta_feed.specs.Text.{ended_line, more_line, more_lines, ended_lines}
 use Rattle.delta_feed.specs.declared.hexes.TheConstants.{LINE_BYTES}
 
 drop_less : (n most : ℕ) (bytes : List ℕ) → 1 ≤ n → length bytes ≤ suc most → length (drop n bytes) ≤ most
@@ -41,8 +41,8 @@ one_more (byte ∷ bytes) some = ap (λ own. more_line (take LINE_BYTES (byte �
     alike : (n : ℕ) → n ≤ n
     alike n = omega arith
 
-pub written_more : (out all bytes : List ℕ) → (length bytes == 0) ≡ false → out ++ lines_text (more_lines (length bytes) bytes) ≡ all
-    → (out ++ ended_line (more_line (take LINE_BYTES bytes))) ++ lines_text (more_lines (length (drop LINE_BYTES bytes)) (drop LINE_BYTES bytes)) ≡ all
+pub written_more : (out all bytes : List ℕ) → (length bytes == 0) ≡ false → out ++ ended_lines (more_lines (length bytes) bytes) ≡ all
+    → (out ++ ended_line (more_line (take LINE_BYTES bytes))) ++ ended_lines (more_lines (length (drop LINE_BYTES bytes)) (drop LINE_BYTES bytes)) ≡ all
 written_more out all bytes some is =
-    append_assoc out (ended_line (more_line (take LINE_BYTES bytes))) (lines_text (more_lines (length (drop LINE_BYTES bytes)) (drop LINE_BYTES bytes)))
-    ∙ ap (λ own. out ++ lines_text own) (sym (one_more bytes some)) ∙ is
+    append_assoc out (ended_line (more_line (take LINE_BYTES bytes))) (ended_lines (more_lines (length (drop LINE_BYTES bytes)) (drop LINE_BYTES bytes)))
+    ∙ ap (λ own. out ++ ended_lines own) (sym (one_more bytes some)) ∙ is

@@ -30,7 +30,7 @@ use Rattle.delta_feed.specs.Line.{behind, del_by, line_in, line_of, opened_by, s
 use Rattle.delta_feed.specs.Place.{may_stand}
 use Rattle.delta_feed.specs.Text.{del_line, delta_line, full_line, joined_words, kind_letter, more_line, set_line, style_line}
 use Rattle.delta_feed.specs.Written.{IsTold}
-use Rattle.delta_feed.specs.Words.{is_empty, is_numeral, is_space, kind_in, last_word, next_word, number_in, words_of}
+use Rattle.delta_feed.specs.Words.{is_empty, is_numeral, is_space, kind_in, last_word, next_word, bounded_number, words_of}
 
 -- ---- words
 
@@ -71,8 +71,8 @@ numeral n small =
       | inr none ↦ (let e : n ≡ 0 = omega arith in rw (e, decimal_digit 0 (omega arith)) refl)
     ]
 
-pub number_back : (least most n : ℕ) → least ≤ n → n ≤ most → n < 10 ^ 19 → number_in least most (decimal n) ≡ Ok n
-unfolding number_in
+pub number_back : (least most n : ℕ) → least ≤ n → n ≤ most → n < 10 ^ 19 → bounded_number least most (decimal n) ≡ Ok n
+unfolding bounded_number
 number_back least most n low high small =
     let value : digits_value 10 (decimal n) ≡ n = (decimal_is_IsNumeral n (omega arith)).1 in
     rw (numeral n small, value, le-leb least n low, le-leb n most high) refl

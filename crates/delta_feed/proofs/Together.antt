@@ -9,7 +9,7 @@ use Rattle.rayon.proofs.ToStd.{chunks_of-concat}
 use Rattle.osm_base.specs.declared.bounds.memory.OutOfMemory.{OutOfMemory}
 use Rattle.osm_base.specs.declared.values.row.Row.{Row}
 use Rattle.osm_base.specs.map.Spots.{SpotOf}
-use Rattle.delta_feed.specs.Text.{entry_lines, row_lines, table_entries, lines_text}
+use Rattle.delta_feed.specs.Text.{entry_lines, row_lines, table_entries, ended_lines}
 use Rattle.delta_feed.proofs.Trees.{text_append}
 
 -- texts, one behind another
@@ -24,15 +24,15 @@ bytes_more texts i text there is =
 
 -- the text of rows
 abbrev pub told : List (SpotOf × Row) → List ℕ
-told entries = lines_text (entry_lines (table_entries entries))
+told entries = ended_lines (entry_lines (table_entries entries))
 
 told_append : (entries others : List (SpotOf × Row)) → told (entries ++ others) ≡ told entries ++ told others
 told_append [] others = refl
 told_append (entry ∷ entries) others =
     let first = row_lines entry.0 (Some entry.1) in
     text_append first (entry_lines (table_entries (entries ++ others)))
-    ∙ ap (λ (own : List ℕ). lines_text first ++ own) (told_append entries others)
-    ∙ sym (append_assoc (lines_text first) (told entries) (told others))
+    ∙ ap (λ (own : List ℕ). ended_lines first ++ own) (told_append entries others)
+    ∙ sym (append_assoc (ended_lines first) (told entries) (told others))
     ∙ ap (λ (own : List ℕ). own ++ told others) (sym (text_append first (entry_lines (table_entries entries))))
 
 -- pieces of them, one behind another

@@ -17,7 +17,7 @@ use Rattle.osm_base.specs.declared.values.row.RowChange.{RowChange}
 use Rattle.osm_base.specs.map.Spots.{SpotOf, spot_cmp}
 use Rattle.osm_base.specs.map.SpotTree.{rows_in}
 use Rattle.std.specs.Map.Iter.{deref_pair}
-use Rattle.delta_feed.specs.Text.{ended_line, entry_lines, row_lines, rows_at, table_entries, lines_text, told_entries}
+use Rattle.delta_feed.specs.Text.{ended_line, entry_lines, row_lines, rows_at, table_entries, ended_lines, told_entries}
 use Rattle.delta_feed.specs.Writing.{lent_entries, told_by}
 use Rattle.osm_base.proofs.SpotOrder.{spot_cmp_total, spot_cmp-IsAntisymmetric, tree_cmp, tree_cmp-spot_cmp}
 
@@ -53,32 +53,32 @@ module _ {X : Type 0} where
 
 -- ---- the text of what stands at spots, one behind the other
 
-pub text_append : (lines others : List (List ℕ)) → lines_text (lines ++ others) ≡ lines_text lines ++ lines_text others
+pub text_append : (lines others : List (List ℕ)) → ended_lines (lines ++ others) ≡ ended_lines lines ++ ended_lines others
 text_append [] others = refl
 text_append (line ∷ lines) others = ap (λ own. ended_line line ++ own) (text_append lines others)
-    ∙ sym (append_assoc (ended_line line) (lines_text lines) (lines_text others))
+    ∙ sym (append_assoc (ended_line line) (ended_lines lines) (ended_lines others))
 
 pub entries_more : (entries : List (SpotOf × Option Row)) (spot : SpotOf) (row : Option Row)
-    → lines_text (entry_lines (entries ++ (spot, row) ∷ [])) ≡ lines_text (entry_lines entries) ++ lines_text (row_lines spot row)
-entries_more [] spot row = ap lines_text (append-nil (row_lines spot row))
+    → ended_lines (entry_lines (entries ++ (spot, row) ∷ [])) ≡ ended_lines (entry_lines entries) ++ ended_lines (row_lines spot row)
+entries_more [] spot row = ap ended_lines (append-nil (row_lines spot row))
 entries_more (entry ∷ entries) spot row =
     text_append (row_lines entry.0 entry.1) (entry_lines (entries ++ (spot, row) ∷ []))
-    ∙ ap (λ own. lines_text (row_lines entry.0 entry.1) ++ own) (entries_more entries spot row)
-    ∙ sym (append_assoc (lines_text (row_lines entry.0 entry.1)) (lines_text (entry_lines entries)) (lines_text (row_lines spot row)))
-    ∙ ap (λ own. own ++ lines_text (row_lines spot row)) (sym (text_append (row_lines entry.0 entry.1) (entry_lines entries)))
+    ∙ ap (λ own. ended_lines (row_lines entry.0 entry.1) ++ own) (entries_more entries spot row)
+    ∙ sym (append_assoc (ended_lines (row_lines entry.0 entry.1)) (ended_lines (entry_lines entries)) (ended_lines (row_lines spot row)))
+    ∙ ap (λ own. own ++ ended_lines (row_lines spot row)) (sym (text_append (row_lines entry.0 entry.1) (entry_lines entries)))
 
 -- entries as they came, and what is written of them
 abbrev pub came_changes : List (Bor SpotOf × Bor RowChange) → List (SpotOf × Option Row)
 came_changes yielded = map (λ entry. (entry.0.now, entry.1.now.row)) yielded
 
 pub changes_more : (out old : List ℕ) (yielded : List (Bor SpotOf × Bor RowChange)) (spot : Bor SpotOf) (change : Bor RowChange)
-    → out ≡ old ++ lines_text (entry_lines (came_changes yielded))
-    → out ++ lines_text (row_lines spot.now change.now.row) ≡ old ++ lines_text (entry_lines (came_changes (yielded ++ (spot, change) ∷ [])))
+    → out ≡ old ++ ended_lines (entry_lines (came_changes yielded))
+    → out ++ ended_lines (row_lines spot.now change.now.row) ≡ old ++ ended_lines (entry_lines (came_changes (yielded ++ (spot, change) ∷ [])))
 changes_more out old yielded spot change is =
-    ap (λ own. own ++ lines_text (row_lines spot.now change.now.row)) is
-    ∙ append_assoc old (lines_text (entry_lines (came_changes yielded))) (lines_text (row_lines spot.now change.now.row))
+    ap (λ own. own ++ ended_lines (row_lines spot.now change.now.row)) is
+    ∙ append_assoc old (ended_lines (entry_lines (came_changes yielded))) (ended_lines (row_lines spot.now change.now.row))
     ∙ ap (λ own. old ++ own) (sym (entries_more (came_changes yielded) spot.now change.now.row)
-    ∙ ap (λ own. lines_text (entry_lines own)) (sym (map-append (λ (entry : Bor SpotOf × Bor RowChange). (entry.0.now, entry.1.now.row)) yielded ((spot, change) ∷ []))))
+    ∙ ap (λ own. ended_lines (entry_lines own)) (sym (map-append (λ (entry : Bor SpotOf × Bor RowChange). (entry.0.now, entry.1.now.row)) yielded ((spot, change) ∷ []))))
 
 lent_are : (yielded : List (Bor SpotOf × Bor Row)) → lent_entries yielded ≡ table_entries (map deref_pair yielded)
 lent_are [] = refl

@@ -111,11 +111,11 @@ delta_lines delta = delta_line delta.version ∷ (entry_lines (changes_at delta.
 abbrev pub ended_line : List ℕ → List ℕ
 ended_line line = line ++ codes "\n"
 
-abbrev pub lines_text : List (List ℕ) → List ℕ
-lines_text lines = flat_map ended_line lines
+abbrev pub ended_lines : List (List ℕ) → List ℕ
+ended_lines lines = flat_map ended_line lines
 
 abbrev pub full_text : (version : ℕ) → List ℕ → TableMap → List ℕ
-full_text version style_bytes tables = lines_text (full_lines version style_bytes tables)
+full_text version style_bytes tables = ended_lines (full_lines version style_bytes tables)
 
 abbrev pub delta_text : Delta → List ℕ
-delta_text delta = lines_text (delta_lines delta)
+delta_text delta = ended_lines (delta_lines delta)

@@ -9,7 +9,7 @@ ghost use Rattle.delta_feed.specs.Words.{words_of};
 
 use crate::hexes::{hex_in, is_hex};
 use crate::place::may_stand;
-use crate::words::{LAST_VERSION, TABLES, cut, kind_in, last_word, next_word, number_in};
+use crate::words::{LAST_VERSION, TABLES, bounded_number, cut, kind_in, last_word, next_word};
 use crate::{FeedWhy, LineRefused, Place, Verb};
 use osm_base::{Bytes, Key, MAX_ID, Spot};
 use std::alloc::Global;
@@ -119,7 +119,7 @@ fn version_in(words: &[u8]) -> Result<u64, FeedWhy>
     ensures fits { IfOk result (λ version. version ≤ LAST_VERSION) }
 {
     let digits = last_word(words)?;
-    number_in(0, LAST_VERSION, digits)
+    bounded_number(0, LAST_VERSION, digits)
 }
 
 /// The bytes that the one word that is left spells.
@@ -139,8 +139,8 @@ fn spot_in(table: &[u8], letter: &[u8], id: &[u8]) -> Result<Spot, FeedWhy>
     ensures spot { result ≡ spot_by table.now letter.now id.now }
 {
     let kind = kind_in(letter)?;
-    let table = number_in(0, TABLES, table)?;
-    let id = number_in(1, MAX_ID, id)?;
+    let table = bounded_number(0, TABLES, table)?;
+    let id = bounded_number(1, MAX_ID, id)?;
     Ok(Spot {
         table: table as u32,
         key: Key::new(kind, id),

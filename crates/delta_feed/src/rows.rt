@@ -1,7 +1,7 @@
 //! The rows of tables, as they are written.
 ghost use Rattle.std.specs.Prelude.{◌≡◌, ◌++◌, IfOk, OnOk};
 ghost use Rattle.osm_base.specs.map.SpotTree.{rows_in};
-ghost use Rattle.delta_feed.specs.Text.{entry_lines, rows_at, table_entries, lines_text};
+ghost use Rattle.delta_feed.specs.Text.{entry_lines, rows_at, table_entries, ended_lines};
 ghost use Rattle.delta_feed.specs.Writing.{lent_entries};
 
 use crate::written::push_row;
@@ -36,7 +36,7 @@ pub(crate) fn push_entries(
     out: &mut Vec<u8>,
     entries: &[(&Spot, &Row)],
 ) -> Result<(), OutOfMemory>
-    ensures lines { OnOk result (out.new.items ≡ out.old.items ++ lines_text (entry_lines (lent_entries entries.now))) }
+    ensures lines { OnOk result (out.new.items ≡ out.old.items ++ ended_lines (entry_lines (lent_entries entries.now))) }
 {
     for (spot, row) in entries {
         push_row(alloc, out, **spot, Some(*row))?;
@@ -50,7 +50,7 @@ pub(crate) fn push_own_entries(
     out: &mut Vec<u8>,
     entries: &[(Spot, Row)],
 ) -> Result<(), OutOfMemory>
-    ensures lines { OnOk result (out.new.items ≡ out.old.items ++ lines_text (entry_lines (table_entries entries.now))) }
+    ensures lines { OnOk result (out.new.items ≡ out.old.items ++ ended_lines (entry_lines (table_entries entries.now))) }
 {
     for (spot, row) in entries {
         push_row(alloc, out, *spot, Some(row))?;

@@ -3,7 +3,7 @@ ghost use Rattle.std.specs.Prelude.{◌≡◌, ◌<◌, ◌≤◌, ◌++◌, IfO
 ghost use Rattle.std.specs.Io.KnownBytes.{Appends};
 ghost use Rattle.outside.specs.Bytes.{AppendsPrefix};
 ghost use Rattle.outside.specs.Causes.{HasCause};
-ghost use Rattle.delta_feed.specs.Text.{ended_line, entry_lines, full_line, full_text, style_lines, table_entries, lines_text};
+ghost use Rattle.delta_feed.specs.Text.{ended_line, entry_lines, full_line, full_text, style_lines, table_entries, ended_lines};
 ghost use Rattle.delta_feed.specs.Writing.{IsUnwritten};
 
 use crate::FeedWrite;
@@ -79,7 +79,7 @@ fn full_texts<R: Threads + Sync>(
 
 /// The lines before the rows.
 fn head_text(alloc: Global, version: u64, style_bytes: &[u8]) -> Result<Vec<u8>, OutOfMemory>
-    ensures text { IfOk result (λ text. text.items ≡ ended_line (full_line version) ++ lines_text (style_lines style_bytes.now)) }
+    ensures text { IfOk result (λ text. text.items ≡ ended_line (full_line version) ++ ended_lines (style_lines style_bytes.now)) }
 {
     let mut out = Vec::new(alloc);
     push_full(&mut out, version)?;
@@ -103,10 +103,10 @@ fn entry_texts<R: Threads + Sync>(
     workers: WorkerCount,
     entries: &[(Spot, Row)],
 ) -> Result<Vec<Vec<u8>>, OutOfMemory>
-    ensures texts { IfOk result (λ texts. flat_map (λ text. text.items) texts.items ≡ lines_text (entry_lines (table_entries entries.now))) }
+    ensures texts { IfOk result (λ texts. flat_map (λ text. text.items) texts.items ≡ ended_lines (entry_lines (table_entries entries.now))) }
 {
     let text = |piece: &[(Spot, Row)]| -> Result<Vec<u8>, OutOfMemory>
-        ensures { IfOk result (λ text. text.items ≡ lines_text (entry_lines (table_entries piece.now))) }
+        ensures { IfOk result (λ text. text.items ≡ ended_lines (entry_lines (table_entries piece.now))) }
     { entry_text(alloc, piece) };
     let size = piece_len(entries.len(), workers);
     let texts: Result<Vec<Vec<u8>>, OutOfMemory> = entries
@@ -127,7 +127,7 @@ fn piece_len(count: usize, workers: WorkerCount) -> usize
 
 /// The text of a piece.
 fn entry_text(alloc: Global, piece: &[(Spot, Row)]) -> Result<Vec<u8>, OutOfMemory>
-    ensures text { IfOk result (λ text. text.items ≡ lines_text (entry_lines (table_entries piece.now))) }
+    ensures text { IfOk result (λ text. text.items ≡ ended_lines (entry_lines (table_entries piece.now))) }
 {
     let mut out = Vec::new(alloc);
     push_own_entries(alloc, &mut out, piece)?;

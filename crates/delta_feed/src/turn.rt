@@ -284,16 +284,16 @@ fn row_for(
     ensures refused { IfErr result (IsRowFault (IsNoRow (tables_of (style_for head.now (option_copied base.entry))) table bytes.now)) }
 {
     match head {
-        Head::Full { style, .. } => row_in(alloc, style, table, bytes),
+        Head::Full { style, .. } => parsed_row(alloc, style, table, bytes),
         Head::Delta { .. } => match base {
-            Some(style) => row_in(alloc, style, table, bytes),
+            Some(style) => parsed_row(alloc, style, table, bytes),
             None => Err(LineRefused::Bad(FeedWhy::Row)),
         },
     }
 }
 
 /// The row of a table with these bytes.
-fn row_in(alloc: Global, style: &Style, table: u32, bytes: &[u8]) -> Result<Row, LineRefused>
+fn parsed_row(alloc: Global, style: &Style, table: u32, bytes: &[u8]) -> Result<Row, LineRefused>
     ensures row { IfOk result (IsRowOf style.now.tables table bytes.now) }
     ensures refused { IfErr result (IsRowFault (IsNoRow style.now.tables table bytes.now)) }
 {

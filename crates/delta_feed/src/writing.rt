@@ -3,7 +3,7 @@ ghost use Rattle.std.specs.Prelude.{◌≡◌, ◌≤◌, ◌++◌, IfOk, IfErr,
 ghost use Rattle.std.specs.FinMap as finite;
 ghost use Rattle.std.specs.Io.KnownBytes.{Appends};
 ghost use Rattle.osm_base.specs.map.Spots.{spot_of};
-ghost use Rattle.delta_feed.specs.Text.{changes_at, changes_by_spot, delta_text, entry_lines, full_text, rows_at, lines_text, told_entries};
+ghost use Rattle.delta_feed.specs.Text.{changes_at, changes_by_spot, delta_text, entry_lines, full_text, rows_at, ended_lines, told_entries};
 ghost use Rattle.delta_feed.specs.Writing.{IsUnwritten, Writes, told_by};
 
 use crate::FeedWrite;
@@ -84,7 +84,7 @@ fn delta_text(alloc: Global, delta: &Delta) -> Result<Vec<u8>, OutOfMemory>
 
 /// Appends the rows of tables by rising spots.
 fn push_rows(alloc: Global, out: &mut Vec<u8>, tables: &Tables) -> Result<(), OutOfMemory>
-    ensures lines { OnOk result (out.new.items ≡ out.old.items ++ lines_text (entry_lines (rows_at tables.now))) }
+    ensures lines { OnOk result (out.new.items ≡ out.old.items ++ ended_lines (entry_lines (rows_at tables.now))) }
 {
     let entries = entries_of(alloc, tables)?;
     push_entries(alloc, out, &entries)?;
@@ -93,7 +93,7 @@ fn push_rows(alloc: Global, out: &mut Vec<u8>, tables: &Tables) -> Result<(), Ou
 
 /// Appends what changes say by rising spots.
 fn push_changes(alloc: Global, out: &mut Vec<u8>, changes: &[RowChange]) -> Result<(), OutOfMemory>
-    ensures lines { OnOk result (out.new.items ≡ out.old.items ++ lines_text (entry_lines (changes_at changes.now))) }
+    ensures lines { OnOk result (out.new.items ≡ out.old.items ++ ended_lines (entry_lines (changes_at changes.now))) }
 {
     let told = by_spot(alloc, changes)?;
     push_told(alloc, out, &told)
@@ -128,7 +128,7 @@ fn push_told(
     out: &mut Vec<u8>,
     told: &BTreeMap<Spot, RowChange>,
 ) -> Result<(), OutOfMemory>
-    ensures lines { OnOk result (out.new.items ≡ out.old.items ++ lines_text (entry_lines (told_entries (finite.entries (told_by told.now))))) }
+    ensures lines { OnOk result (out.new.items ≡ out.old.items ++ ended_lines (entry_lines (told_entries (finite.entries (told_by told.now))))) }
 {
     for (spot, change) in told {
         push_row(alloc, out, *spot, change.row.as_ref())?;

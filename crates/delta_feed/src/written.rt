@@ -2,7 +2,7 @@
 ghost use Rattle.std.specs.Prelude.{◌≡◌, ◌++◌, [], codes, decimal, length, map, take, drop, OnOk};
 ghost use Rattle.std.specs.Option.{option_copied};
 ghost use Rattle.hex.specs.Hex.{encode_lower};
-ghost use Rattle.delta_feed.specs.Text.{delta_line, del_line, ended_line, full_line, joined_words, kind_letter, lines_behind, more_line, more_lines, row_lines, set_line, set_lines, spot_words, style_line, style_lines, lines_text};
+ghost use Rattle.delta_feed.specs.Text.{delta_line, del_line, ended_line, full_line, joined_words, kind_letter, lines_behind, more_line, more_lines, row_lines, set_line, set_lines, spot_words, style_line, style_lines, ended_lines};
 
 use crate::LINE_BYTES;
 use crate::hexes::push_hex;
@@ -42,7 +42,7 @@ pub(crate) fn push_end(out: &mut Vec<u8>) -> Result<(), OutOfMemory>
 
 /// Appends the lines of a style.
 pub(crate) fn push_style(out: &mut Vec<u8>, bytes: &[u8]) -> Result<(), OutOfMemory>
-    ensures lines { OnOk result (out.new.items ≡ out.old.items ++ lines_text (style_lines bytes.now)) }
+    ensures lines { OnOk result (out.new.items ≡ out.old.items ++ ended_lines (style_lines bytes.now)) }
 {
     let (front, behind) = cut(bytes);
     push_style_line(out, front)?;
@@ -57,7 +57,7 @@ pub(crate) fn push_row(
     spot: Spot,
     row: Option<&Row>,
 ) -> Result<(), OutOfMemory>
-    ensures lines { OnOk result (out.new.items ≡ out.old.items ++ lines_text (row_lines spot (option_copied row.entry))) }
+    ensures lines { OnOk result (out.new.items ≡ out.old.items ++ ended_lines (row_lines spot (option_copied row.entry))) }
 {
     match row {
         None => push_del(out, spot),
@@ -81,7 +81,7 @@ fn push_del(out: &mut Vec<u8>, spot: Spot) -> Result<(), OutOfMemory>
 
 /// Appends the lines that give a spot a row of these bytes.
 fn push_set(out: &mut Vec<u8>, spot: Spot, bytes: &[u8]) -> Result<(), OutOfMemory>
-    ensures lines { OnOk result (out.new.items ≡ out.old.items ++ lines_text (set_lines spot bytes.now)) }
+    ensures lines { OnOk result (out.new.items ≡ out.old.items ++ ended_lines (set_lines spot bytes.now)) }
 {
     let (front, behind) = cut(bytes);
     push_set_line(out, spot, front)?;
@@ -103,7 +103,7 @@ fn cut(bytes: &[u8]) -> (&[u8], &[u8])
 
 /// Appends the lines behind the first one of such bytes.
 fn push_more(out: &mut Vec<u8>, bytes: &[u8]) -> Result<(), OutOfMemory>
-    ensures lines { OnOk result (out.new.items ≡ out.old.items ++ lines_text (more_lines (length bytes.now) bytes.now)) }
+    ensures lines { OnOk result (out.new.items ≡ out.old.items ++ ended_lines (more_lines (length bytes.now) bytes.now)) }
 {
     let mut rest = bytes;
     while !rest.is_empty() {

@@ -26,7 +26,7 @@ mod version;
 mod world;
 
 use example_table::{is_told, named_row, refuse_row};
-use row::{Row, row_in};
+use row::{Row, line_row};
 use setting::{Rules, rules_of_all};
 use std::fs::{self, Files};
 use std::io;
@@ -75,7 +75,7 @@ fn passes<R: Threads + Sync + Files + Print + Eprint + AllocGlobal>(
     table: &str,
     line: &str,
 ) -> io::Result<bool> {
-    match row_in(table, line) {
+    match line_row(table, line) {
         Some(row) => differs_not(rt, rules, row),
         None => {
             refuse_row(rt, line)?;

@@ -12,7 +12,7 @@ pub struct Row<'a> {
 }
 
 /// The row of a line of a table. `None`: it is none of this table.
-pub fn row_in<'a>(table: &str, line: &'a str) -> Option<Row<'a>> {
+pub fn line_row<'a>(table: &str, line: &'a str) -> Option<Row<'a>> {
     let (first, rest) = named_row(line)?;
     if table == "histories.txt" {
         return Some(Row {

@@ -84,7 +84,7 @@ fn change_of(alloc: Global, word: &str) -> Result<RowChange, Refusal> {
     let row = if row == "-" {
         None
     } else {
-        Some(row_in(alloc, row)?)
+        Some(word_row(alloc, row)?)
     };
     Ok(RowChange { table, key, row })
 }
@@ -103,7 +103,7 @@ pub fn spot_of(word: &str) -> Option<(Spot, &str)> {
 }
 
 /// The row of a word `NUMBER:PLACE` or `NUMBER:PLACE;PLACE..`.
-fn row_in(alloc: Global, word: &str) -> Result<Row, Refusal> {
+fn word_row(alloc: Global, word: &str) -> Result<Row, Refusal> {
     let Some((number, places)) = word.split_once(':') else {
         return Err(Refusal::NoRow);
     };

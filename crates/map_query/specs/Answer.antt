@@ -15,7 +15,7 @@ use Rattle.osm_base.specs.values.Key.{KeyOf}
 use Rattle.osm_base.specs.values.Place.{PlaceOf}
 use Rattle.lanes_geo.specs.Box.{box_of, meets}
 use Rattle.row_text.specs.Numbered.{rows_by_number, rows_of}
-use Rattle.row_text.specs.Table.{has_areas, number_in}
+use Rattle.row_text.specs.Table.{has_areas, row_number}
 use Rattle.style_read.specs.Style.{StyleOf}
 use Rattle.map_query.specs.declared.answering.Found.{Found}
 use Rattle.map_query.specs.declared.answering.Found.TheVariants as finds
@@ -58,7 +58,7 @@ is_in asked row = near asked (box_of (places_of row.geometry))
 
 -- rows of a table with their numbers
 abbrev pub numbered : StyleOf → (table : ℕ) → List (KeyOf × Row) → List NumberedRow
-numbered style table rows = map (λ (key, row). record { number = number_in style table key; row = row }) rows
+numbered style table rows = map (λ (key, row). record { number = row_number style table key; row = row }) rows
 
 -- the row of an object, if there is one
 abbrev pub only : KeyOf → Option Row → List (KeyOf × Row)

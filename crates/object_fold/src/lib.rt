@@ -17,6 +17,7 @@
 mod ahead;
 mod change;
 mod fault;
+mod heap;
 mod keeper;
 mod listed;
 mod listing;

@@ -10,6 +10,7 @@ ghost use Rattle.object_fold.specs.ReadsOnly.{ReadsOnly};
 ghost use Rattle.object_fold.specs.Stops.{Stops};
 
 use crate::ahead::Ahead;
+use crate::heap::{READER_HEAP, grow_heap};
 use crate::lot_size::LotSize;
 use crate::progress::Progress;
 use crate::scan::{PIECE, read_on, scan_file};
@@ -51,6 +52,7 @@ impl LotReader {
     fn new(alloc: Global, workers: WorkerCount, lot: LotSize) -> Result<Self, OutOfMemory>
         ensures new { IfOk result (λ reader. IsNew lot.bytes reader) }
     {
+        grow_heap(alloc, READER_HEAP);
         Ok(Self {
             workers,
             waiting: Waiting::new(alloc),

@@ -8,6 +8,7 @@ ghost use Rattle.object_fold.specs.Passed.{line_fault, spelled};
 ghost use Rattle.object_fold.specs.Progress.{passed_line};
 ghost use Rattle.object_fold.specs.Reading.{TakesNext};
 
+use crate::heap::{SHARE_HEAP, grow_heap};
 use crate::passed::Passed;
 use crate::progress::add_line;
 use crate::{Change, Keeper};
@@ -155,6 +156,7 @@ pub fn read_share(alloc: Global, limits: &Limits, bytes: &[u8], room: Vec<Entry>
     ensures within { result.len ≤ length bytes.now }
     ensures part { IsPart limits.now (take result.len bytes.now) result.part }
 {
+    grow_heap(alloc, SHARE_HEAP);
     let mut part = Part::over(room);
     let mut rest = bytes;
     while let Some((line, behind)) = first_line(rest) {

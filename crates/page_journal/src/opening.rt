@@ -17,7 +17,7 @@ use crate::layout::{
     COUNT_AT, FIRST_AT, HEAD, MARK, OPEN, PAGE, PAGE_LEN, ROOT_AT, SHUT, number_page_count,
 };
 use crate::pages::set_gate;
-use crate::reading::{gate_in, number_in, read_head, read_number};
+use crate::reading::{gate_in, head_number, read_head, read_number};
 use outside::{Disk, Failed};
 
 /// Opens a store, and answers how many home pages it has, page 0 among them. A journal that was left
@@ -71,7 +71,7 @@ fn prepare<D: Disk>(disk: &mut D, head: &mut [u8; HEAD]) -> Result<u64, StoreFau
         return Err(StoreFault::NotFormatted);
     }
     read_head(disk, head)?;
-    let mark = number_in(head, 0);
+    let mark = head_number(head, 0);
     if mark != MARK {
         return Err(StoreFault::NotFormatted);
     }
@@ -113,7 +113,7 @@ fn home_number<D: Disk>(disk: &mut D, head: &[u8; HEAD], moved: bool) -> Result<
         let home = read_number(disk, ROOT_AT)?;
         return Ok(home);
     }
-    Ok(number_in(head, ROOT_AT as usize))
+    Ok(head_number(head, ROOT_AT as usize))
 }
 
 // Whether so many bytes hold so many pages, at least two.
@@ -178,8 +178,8 @@ fn look<D: Disk>(
     if value != OPEN {
         return Ok(None);
     }
-    let first = number_in(head, FIRST_AT as usize);
-    let count = number_in(head, COUNT_AT as usize);
+    let first = head_number(head, FIRST_AT as usize);
+    let count = head_number(head, COUNT_AT as usize);
     if !fits(first, count, len) {
         return Err(StoreFault::BadStore { page: 0 });
     }

@@ -32,7 +32,7 @@ pub fn read_head<D: Disk>(disk: &mut D, head: &mut [u8; HEAD]) -> Result<(), Fai
 }
 
 /// A number of the first two pages.
-pub fn number_in(head: &[u8; HEAD], at: usize) -> u64
+pub fn head_number(head: &[u8; HEAD], at: usize) -> u64
     requires { at + 8 ≤ 8192 }
     ensures value { (bytes : List ℕ) → 8192 ≤ length bytes → head.now ≡ head_of bytes → result ≡ number bytes at }
 {

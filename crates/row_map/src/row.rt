@@ -60,7 +60,7 @@ fn wanted_row<L: Lookup>(
 
 /// The row of an object in a table. `None`: it is of another kind than its key, the table does not want it, or its geometry
 /// is not defined.
-pub(crate) fn row_in<L: Lookup>(
+pub(crate) fn row_among<L: Lookup>(
     alloc: Global,
     table: &TableDef,
     key: Key,
@@ -102,7 +102,7 @@ fn row_at<L: Lookup>(
                 ids: relations_with(lookup, key),
                 lookup,
             };
-            Ok(row_in(alloc, table, key, object, &relations)?)
+            Ok(row_among(alloc, table, key, object, &relations)?)
         }
     }
 }

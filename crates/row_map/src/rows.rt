@@ -7,7 +7,7 @@ ghost use Rattle.row_rules.specs.Material.{material_among};
 ghost use Rattle.row_rules.specs.Rows.{in_table, rows_from, rows_in, rows_known};
 
 use crate::relations::{Relations, relations_with};
-use crate::row::row_in;
+use crate::row::row_among;
 use osm_base::{Key, Lookup, Object, OutOfMemory, Row, TableRow, TableRows};
 use std::alloc::Global;
 use style_read::{MAX_TABLES, Style, TableDef};
@@ -43,7 +43,7 @@ fn rows_among<L: Lookup>(
         add_row(
             &mut rows,
             number,
-            row_in(alloc, table, key, object, relations)?,
+            row_among(alloc, table, key, object, relations)?,
         )?;
         number += 1;
     }

@@ -24,18 +24,18 @@ use Rattle.osm_base.specs.values.Key.{KeyOf}
 use Rattle.osm_base.specs.values.KeyOrder.{key_cmp}
 use Rattle.osm_base.proofs.KeyLaws.{both_equal, key_cmp_total, key_cmp-IsAntisymmetric}
 use Rattle.osm_base.proofs.SpotOrder.{tree_cmp, tree_cmp-spot_cmp, spot_cmp_total, spot_cmp-IsAntisymmetric}
-use Rattle.row_text.specs.Row.{row_number}
+use Rattle.row_text.specs.Row.{signed_number}
 use Rattle.row_text.specs.Numbered.{by_number, rows_among, rows_of, IsInFront, IsBehind}
 use Rattle.row_text.proofs.Ordered.{both_left, both_right, less, entries-from_entries}
 
 -- ---- the order of numbers
 
 pub by_number_total : (of_areas : Bool) → IsTotalOrder (by_number of_areas)
-by_number_total of_areas = then_total (on_total (row_number of_areas) int_cmp_total) key_cmp_total
+by_number_total of_areas = then_total (on_total (signed_number of_areas) int_cmp_total) key_cmp_total
 
 pub by_number-IsAntisymmetric : (of_areas : Bool) → IsAntisymmetric (by_number of_areas)
 by_number-IsAntisymmetric of_areas key other e =
-    key_cmp-IsAntisymmetric key other (both_equal (int_cmp (row_number of_areas key) (row_number of_areas other)) (key_cmp key other) e).1
+    key_cmp-IsAntisymmetric key other (both_equal (int_cmp (signed_number of_areas key) (signed_number of_areas other)) (key_cmp key other) e).1
 
 -- ---- the rows of a table rise by their keys
 

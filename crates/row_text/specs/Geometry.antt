@@ -25,15 +25,15 @@ bracketed text parts = codes "(" ++ listed text parts ++ codes ")"
 abbrev pub line_text : List PlaceOf → List ℕ
 line_text = bracketed place_text
 
-abbrev pub lines_text : List (List PlaceOf) → List ℕ
-lines_text = bracketed line_text
+abbrev pub multiline_text : List (List PlaceOf) → List ℕ
+multiline_text = bracketed line_text
 
 abbrev pub polygons_text : List (List (List PlaceOf)) → List ℕ
-polygons_text = bracketed lines_text
+polygons_text = bracketed multiline_text
 
 -- a geometry behind its name
 abbrev pub geometry_text : Geometry → List ℕ
 geometry_text (Point place) = codes "POINT(" ++ place_text place ++ codes ")"
 geometry_text (Line places) = codes "LINESTRING" ++ line_text places
-geometry_text (Lines lines) = codes "MULTILINESTRING" ++ lines_text lines
+geometry_text (Lines lines) = codes "MULTILINESTRING" ++ multiline_text lines
 geometry_text (Area polygons) = codes "MULTIPOLYGON" ++ polygons_text polygons

@@ -11,7 +11,7 @@ use Rattle.osm_base.specs.values.Key.{KeyOf}
 use Rattle.osm_base.specs.values.KeyOrder.{key_cmp}
 use Rattle.osm_base.specs.declared.values.row.Row.{Row}
 use Rattle.row_text.specs.declared.numbered.KeyedRow.{KeyedRow}
-use Rattle.row_text.specs.Row.{row_number}
+use Rattle.row_text.specs.Row.{signed_number}
 
 -- those of rows that stand in a table, with the keys of their objects
 abbrev pub rows_among : (table : ℕ) → List (SpotOf × Row) → List (KeyOf × Row)
@@ -23,7 +23,7 @@ rows_of tables table = rows_among table (finite.entries tables)
 
 -- the order of rows by their numbers, and then by their keys
 abbrev pub by_number : (of_areas : Bool) → KeyOf → KeyOf → Ordering
-by_number of_areas = then_cmp (on (row_number of_areas) int_cmp) key_cmp
+by_number of_areas = then_cmp (on (signed_number of_areas) int_cmp) key_cmp
 
 -- no two rows stand at one place of it
 abbrev pub HasEachOnce : (of_areas : Bool) → List (KeyOf × Row) → Type 0

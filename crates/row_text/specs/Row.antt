@@ -35,5 +35,5 @@ signed_id true kinds.Relation id = neg_ℤ (pos id)
 signed_id _ _ id = pos id
 
 -- the number of the row of an object: its id, negated for a relation in a table of areas
-abbrev pub row_number : Bool → KeyOf → ℤ
-row_number of_areas key = signed_id of_areas key.kind key.id
+abbrev pub signed_number : Bool → KeyOf → ℤ
+signed_number of_areas key = signed_id of_areas key.kind key.id

@@ -11,7 +11,7 @@ use Rattle.style_read.specs.Style.{StyleOf}
 use Rattle.style_read.specs.declared.style.Source.{Source}
 use Rattle.style_read.specs.declared.style.Source.TheVariants as sources
 use Rattle.row_text.specs.Numbered.{rows_by_number}
-use Rattle.row_text.specs.Row.{row_line, row_number}
+use Rattle.row_text.specs.Row.{row_line, signed_number}
 
 -- whether a source is that of areas
 abbrev pub is_area : Source → Bool
@@ -23,12 +23,12 @@ abbrev pub has_areas : StyleOf → (table : ℕ) → Bool
 has_areas style table = option_map_or (λ def. is_area def.source) (slice_get style.tables table) false
 
 -- the number of the row that an object has in a table
-abbrev pub number_in : StyleOf → (table : ℕ) → KeyOf → ℤ
-number_in style table key = row_number (has_areas style table) key
+abbrev pub row_number : StyleOf → (table : ℕ) → KeyOf → ℤ
+row_number style table key = signed_number (has_areas style table) key
 
 -- the lines of rows in a table of areas or in another one
 abbrev pub lines_of : (of_areas : Bool) → List (KeyOf × Row) → List ℕ
-lines_of of_areas rows = flat_map (λ (key, row). row_line (row_number of_areas key) row) rows
+lines_of of_areas rows = flat_map (λ (key, row). row_line (signed_number of_areas key) row) rows
 
 -- the text of a table of these tables under a style
 abbrev pub table_text : StyleOf → TableMap → (table : ℕ) → List ℕ

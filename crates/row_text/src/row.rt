@@ -4,7 +4,7 @@ ghost use Rattle.std.specs.Fmt.{signed_decimal};
 ghost use Rattle.std.specs.Str.{chars};
 ghost use Rattle.std.specs.String.{string_bytes};
 ghost use Rattle.row_text.specs.CopyText.{copy_text};
-ghost use Rattle.row_text.specs.Row.{cell_text, row_line, row_number, text_row};
+ghost use Rattle.row_text.specs.Row.{cell_text, row_line, signed_number, text_row};
 
 use crate::copy_text::push_copy_text;
 use crate::geometry::push_geometry;
@@ -12,7 +12,7 @@ use osm_base::{Cell, Geometry, Key, Kind, OutOfMemory, Row};
 
 /// The number of the row of an object, in a table of areas or in another one.
 pub(crate) fn signed_id(of_areas: bool, key: Key) -> i64
-    ensures number { result ≡ row_number of_areas key }
+    ensures number { result ≡ signed_number of_areas key }
 {
     let id = key.id as i64;
     match key.kind {

@@ -5,7 +5,7 @@ ghost use Rattle.std.specs.FinMap.{is_sorted};
 ghost use Rattle.std.specs.String.{string_bytes};
 ghost use Rattle.osm_base.specs.values.KeyOrder.{key_cmp};
 ghost use Rattle.row_text.specs.Numbered.{by_number, rows_by_number, seen};
-ghost use Rattle.row_text.specs.Table.{has_areas, is_area, lines_of, number_in, table_text};
+ghost use Rattle.row_text.specs.Table.{has_areas, is_area, lines_of, row_number, table_text};
 
 use crate::numbered::{self, KeyedRow, rows_in_order};
 use crate::row::{push_row, signed_id};
@@ -15,7 +15,7 @@ use style_read::{Source, Style};
 
 /// The number of the row that an object has in a table: its id, negated for a relation in a table of areas.
 pub fn row_number(style: &Style, table: u32, key: Key) -> i64
-    ensures number { result ≡ number_in style.now table key }
+    ensures number { result ≡ row_number style.now table key }
 {
     signed_id(has_areas(style, table), key)
 }

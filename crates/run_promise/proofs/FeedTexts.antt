@@ -11,7 +11,7 @@ use Rattle.osm_base.specs.declared.values.row.Row.{Row}
 use Rattle.osm_base.specs.map.Spots.{SpotOf, TableMap}
 use Rattle.delta_feed.specs.Text.{changes_at, del_line, delta_line, delta_text, entry_lines, full_line, full_text, kind_letter}
 use Rattle.delta_feed.specs.Text.{lines_behind, more_line, more_lines, row_lines, rows_at, set_line, set_lines, style_line, style_lines}
-use Rattle.delta_feed.specs.Text.{lines_text}
+use Rattle.delta_feed.specs.Text.{ended_lines}
 use Rattle.delta_feed.specs.declared.hexes.TheConstants.{LINE_BYTES}
 use Rattle.delta_feed.specs.declared.words.TheConstants.{SPACE}
 use Rattle.run_promise.specs.FeedBlocks.{IsFeedBlock, IsInner, lines_in}
@@ -133,6 +133,6 @@ full_is_block version style_bytes tables = record {
     inner_both (style_lines style_bytes) (entry_lines (rows_at tables)) (style_lines_inner style_bytes)
         (entries_inner (rows_at tables)),
   );
-  is = ap (λ (lines : List (List ℕ)). lines_text (full_line version ∷ lines))
+  is = ap (λ (lines : List (List ℕ)). ended_lines (full_line version ∷ lines))
       (sym (append_more (style_lines style_bytes) (entry_lines (rows_at tables)) (codes "end" ∷ [])));
 }

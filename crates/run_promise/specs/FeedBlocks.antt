@@ -1,7 +1,7 @@
 -- The blocks of a feed, as whoever reads lines tells them apart.
 use Rattle.std.specs.Prelude.{◌≡◌, ◌≢◌, ◌⊎◌, ℕ, nat_eq, List, [], ◌∷◌, ◌++◌, codes, filter, length}
 use Rattle.std.specs.List.{AllByRecursion}
-use Rattle.delta_feed.specs.Text.{lines_text}
+use Rattle.delta_feed.specs.Text.{ended_lines}
 
 -- how many lines there are
 abbrev pub lines_in : List ℕ → ℕ
@@ -15,7 +15,7 @@ IsInner line = (lines_in line ≡ 0) × (line ≢ codes "end")
 pub record IsFeedBlock (text : List ℕ) : Type 0 where
   pub lines : List (List ℕ)
   pub inner : AllByRecursion IsInner lines
-  pub is : text ≡ lines_text (lines ++ codes "end" ∷ [])
+  pub is : text ≡ ended_lines (lines ++ codes "end" ∷ [])
 
 -- nothing, or the front of a block that lacks some of it
 abbrev pub IsPart : List ℕ → Type 0

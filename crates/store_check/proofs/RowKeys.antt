@@ -9,7 +9,7 @@ use Rattle.value_bytes.specs.declared.store_map.StoreMap.{StoreMap}
 use Rattle.value_bytes.specs.declared.store_map.StoreMap.TheVariants as stored
 use Rattle.bucket_store.specs.Image.{Image}
 use Rattle.store_maps.specs.Asked.{object_map, row_key, row_map}
-use Rattle.store_check.specs.Judged.{GoesWith, IsAsked, IsFound, is_node_rows, kind_kept, row_number, rows_map}
+use Rattle.store_check.specs.Judged.{GoesWith, IsAsked, IsFound, is_node_rows, kind_kept, rows_key, rows_map}
 use Rattle.store_check.specs.Values.{NodeMap, ObjectMap, objects_of}
 use Rattle.store_check.specs.Wrong.{IsRightIn}
 
@@ -32,7 +32,7 @@ object_is stored.OtherRows kind same = absurd (none_some kind same)
 module _ (style : StyleOf) (image : Image) (nodes : NodeMap) (ways relations : ObjectMap) (number : ℕ) (found : Option ℕ) where
   abbrev Found : StoreMap → Type 0
   Found source = IsFound (IsRightIn style image nodes ways relations (rows_map source))
-      (IsAsked (objects_of nodes ways relations) source number) (row_number source number) found
+      (IsAsked (objects_of nodes ways relations) source number) (rows_key source number) found
 
   of_kind : (kind : Kind) → IsFound (IsRightIn style image nodes ways relations (row_map kind)) (Unit {0}) (row_key kind number) found
       → Found (object_map kind)

@@ -13,7 +13,7 @@ use Rattle.value_bytes.specs.declared.store_map.StoreMap.{StoreMap}
 use Rattle.value_bytes.specs.declared.store_map.StoreMap.TheVariants as stored
 use Rattle.bucket_store.specs.Image.{Image}
 use Rattle.store_check.specs.Held.{HeldOf}
-use Rattle.store_check.specs.Judged.{GoesWith, IsBelow, IsOne, Sees, SeesRows, Tells, row_number}
+use Rattle.store_check.specs.Judged.{GoesWith, IsBelow, IsOne, Sees, SeesRows, Tells, rows_key}
 use Rattle.store_check.specs.Least.{lesser, with_key}
 use Rattle.store_check.specs.Values.{IfUnknown, NodeMap, ObjectMap, bare, objects_of}
 use Rattle.value_bytes.specs.declared.nodes.NodeRecord.{NodeRecord}
@@ -54,19 +54,19 @@ module _ (Is : ℕ → Type 0) (Asked : StoreMap → ℕ → Type 0) where
     wrong = λ is. second.wrong (first.wrong is);
     lower = λ key low. first.lower key (second.lower key low);
     seen = λ source number all asked low. elim (split source number all) [
-      | inl one ↦ first.seen source number one asked (second.lower (row_number source number) low)
+      | inl one ↦ first.seen source number one asked (second.lower (rows_key source number) low)
       | inr two ↦ second.seen source number two asked low
     ];
   }
 
-  one_seen : (source other : StoreMap) (number own : ℕ) → source ≡ other → number ≡ own → (Asked source number → Is (row_number source number))
-      → Asked other own → Is (row_number other own)
+  one_seen : (source other : StoreMap) (number own : ℕ) → source ≡ other → number ≡ own → (Asked source number → Is (rows_key source number))
+      → Asked other own → Is (rows_key other own)
   one_seen source other number own same_source same right asked =
-      subst (λ (n : ℕ). Is (row_number other n)) same
-      (subst (λ (s : StoreMap). Is (row_number s number)) same_source
+      subst (λ (n : ℕ). Is (rows_key other n)) same
+      (subst (λ (s : StoreMap). Is (rows_key s number)) same_source
       (right (subst (λ (s : StoreMap). Asked s number) (sym same_source) (subst (λ (n : ℕ). Asked other n) (sym same) asked))))
 
-  pub sees_right : (source : StoreMap) (number : ℕ) (old : Option ℕ) → (Asked source number → Is (row_number source number))
+  pub sees_right : (source : StoreMap) (number : ℕ) (old : Option ℕ) → (Asked source number → Is (rows_key source number))
       → Sees Is Asked (IsOne source number) old old
   sees_right source number old right = record {
     wrong = λ is. is;
@@ -74,21 +74,21 @@ module _ (Is : ℕ → Type 0) (Asked : StoreMap → ℕ → Type 0) where
     seen = λ other own one asked low. one_seen source other number own one.0 one.1 right asked;
   }
 
-  number_is : (source other : StoreMap) (number own : ℕ) → source ≡ other → number ≡ own → row_number source number ≡ row_number other own
-  number_is source other number own same_source same = λ i. row_number (same_source i) (same i)
+  number_is : (source other : StoreMap) (number own : ℕ) → source ≡ other → number ≡ own → rows_key source number ≡ rows_key other own
+  number_is source other number own same_source same = λ i. rows_key (same_source i) (same i)
 
   wrong_too : (old : Option ℕ) (key : ℕ) → ¬ Is key → IfSome old (λ own. ¬ Is own) → (b : Bool) → ¬ Is (lesser old key)
   wrong_too None key wrong is b = wrong
   wrong_too (Some own) key wrong is b = elim (nat_lt key own) as (λ b. ¬ Is (if b then key else own)) [ true ↦ wrong | false ↦ is ]
 
-  pub sees_wrong : (source : StoreMap) (number : ℕ) (old : Option ℕ) → ¬ Is (row_number source number)
-      → Sees Is Asked (IsOne source number) old (with_key old (row_number source number) false)
+  pub sees_wrong : (source : StoreMap) (number : ℕ) (old : Option ℕ) → ¬ Is (rows_key source number)
+      → Sees Is Asked (IsOne source number) old (with_key old (rows_key source number) false)
   sees_wrong source number old wrong = record {
-    wrong = λ is. wrong_too old (row_number source number) wrong is true;
-    lower = λ key low. (lesser_below old (row_number source number) key low).0;
+    wrong = λ is. wrong_too old (rows_key source number) wrong is true;
+    lower = λ key low. (lesser_below old (rows_key source number) key low).0;
     seen = λ other own one asked low.
         let same = number_is source other number own one.0 one.1 in
-        let less = (lesser_below old (row_number source number) (row_number other own) low).1 in
+        let less = (lesser_below old (rows_key source number) (rows_key other own) low).1 in
         absurd (omega (arith, same, less));
   }
 

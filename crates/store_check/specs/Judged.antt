@@ -90,10 +90,10 @@ is_node_rows stored.NodeRows = true
 is_node_rows _ = false
 
 -- the key there of the rows of an object with this id, or this key itself
-abbrev pub row_number : StoreMap → ℕ → ℕ
-row_number stored.Ways id = 2 * id
-row_number stored.Relations id = 2 * id + 1
-row_number _ id = id
+abbrev pub rows_key : StoreMap → ℕ → ℕ
+rows_key stored.Ways id = 2 * id
+rows_key stored.Relations id = 2 * id + 1
+rows_key _ id = id
 
 -- what the keys of a map are asked for: those of a map of rows are where they have no object
 abbrev pub IsAsked : ObjectSet → StoreMap → ℕ → Type 0
@@ -125,8 +125,8 @@ IsBelow (Some least) key = key < least
 pub record Sees (Is : ℕ → Type 0) (Asked Part : StoreMap → ℕ → Type 0) (old new : Option ℕ) : Type 0 where
   pub wrong : IfSome old (λ key. ¬ Is key) → IfSome new (λ key. ¬ Is key)
   pub lower : (key : ℕ) → IsBelow new key → IsBelow old key
-  pub seen : (source : StoreMap) (number : ℕ) → Part source number → Asked source number → IsBelow new (row_number source number)
-      → Is (row_number source number)
+  pub seen : (source : StoreMap) (number : ℕ) → Part source number → Asked source number → IsBelow new (rows_key source number)
+      → Is (rows_key source number)
 
 -- so it is with the rows of a store
 abbrev pub SeesRows : StyleOf → Image → NodeMap → ObjectMap → ObjectMap → StoreMap → (StoreMap → ℕ → Type 0) → (old new : Option ℕ) → Type 0

@@ -8,7 +8,7 @@ ghost use Rattle.value_bytes.specs.declared.store_map.StoreMap.TheVariants as st
 ghost use Rattle.bucket_store.specs.Image.{Has, Image};
 ghost use Rattle.store_maps.specs.Asked.{object_map, row_key, row_map};
 ghost use Rattle.store_check.specs.Held.{HeldOf};
-ghost use Rattle.store_check.specs.Judged.{IsAmong, IsAsked, IsFound, IsOne, SeesRows, is_node_rows, kind_kept, Tells, other_at, row_number, rows_map};
+ghost use Rattle.store_check.specs.Judged.{IsAmong, IsAsked, IsFound, IsOne, SeesRows, is_node_rows, kind_kept, Tells, other_at, rows_key, rows_map};
 ghost use Rattle.store_check.specs.Finds.{Finds};
 ghost use Rattle.store_check.specs.Values.{NodeMap, ObjectMap, objects_of};
 ghost use Rattle.store_check.specs.Wrong.{IsRightIn};
@@ -98,7 +98,7 @@ fn wrong_key<D: Disk>(
         (nodes : NodeMap) (ways relations : ObjectMap)
         → Tells held.now rest nodes ways relations → finite.get (rest.maps (map_number source.map)) number ≡ Some bytes.now
         → IsFound (IsRightIn style.now rest nodes ways relations (rows_map source.map)) (IsAsked (objects_of nodes ways relations) source.map number)
-        (row_number source.map number) found) }
+        (rows_key source.map number) found) }
 {
     match kind_of(source.map) {
         Some(kind) => match wrong_of_object(alloc, reading, style, held, kind, number, bytes) {

@@ -36,21 +36,6 @@ fn is_of(key: Key, kind: Kind, id: u64) -> bool
     rank_of(key.kind) == rank_of(kind) && key.id == id
 }
 
-/// The place, where it is between two ends, and else what comes next to it there.
-fn kept_between(low: usize, high: usize, place: usize) -> usize
-    requires { low < high }
-    ensures low { low ≤ result }
-    ensures high { result < high }
-{
-    if place < low {
-        low
-    } else if place < high {
-        place
-    } else {
-        high - 1
-    }
-}
-
 /// How far behind the first of `steps + 1` ids an id stands, if these rise evenly; one below the first stands where that one does.
 /// `None`: they do not rise.
 fn steps_to(first: u64, last: u64, id: u64, steps: usize) -> Option<usize> {
@@ -69,7 +54,7 @@ fn next_place(entries: &[Entry], low: usize, high: usize, start: usize, turn: u8
     ensures high { result < high }
 {
     if turn == 0 {
-        return kept_between(low, high, start);
+        return start.max(low).min(high - 1);
     }
     let middle = low + (high - low) / 2;
     if turn % 3 == 0 {
@@ -78,7 +63,7 @@ fn next_place(entries: &[Entry], low: usize, high: usize, start: usize, turn: u8
     let first = entries[low].key;
     let last = entries[high - 1].key;
     match steps_to(first.id, last.id, id, high - 1 - low) {
-        Some(steps) => kept_between(low, high, low.saturating_add(steps)),
+        Some(steps) => low.saturating_add(steps).min(high - 1),
         None => middle,
     }
 }

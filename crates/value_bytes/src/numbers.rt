@@ -34,7 +34,7 @@ pub fn front_number(bytes: &[u8]) -> Option<(u64, &[u8])>
         return None;
     }
     let (front, rest) = bytes.split_at(8);
-    Some((number_in(front), rest))
+    Some((bytes_value(front), rest))
 }
 
 /// The signed number of eight bytes at the front, and the bytes behind it. `None`: there are fewer.
@@ -90,7 +90,7 @@ pub(crate) fn at_most(number: u64, most: usize) -> usize
 }
 
 /// The number of these eight bytes.
-fn number_in(bytes: &[u8]) -> u64
+fn bytes_value(bytes: &[u8]) -> u64
     requires { length bytes.now ≡ 8 }
     ensures number { bytes.now ≡ number_bytes result }
 {

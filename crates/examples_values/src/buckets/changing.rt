@@ -96,7 +96,7 @@ pub fn fields(
 }
 
 /// Gives a store without buckets some.
-pub fn set_buckets(
+pub fn set_bucket_count(
     alloc: Global,
     buckets: &mut Buckets<'_, MemDisk>,
     text: &str,

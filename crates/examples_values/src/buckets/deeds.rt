@@ -2,7 +2,7 @@
 ghost use Rattle.std.specs.Prelude.{◌≡◌, ◌<◌, false, IfSome, OnOk};
 ghost use Rattle.bucket_store.specs.Transaction.{has_refused};
 
-use crate::buckets::changing::{fields, give, put, remove, set_buckets};
+use crate::buckets::changing::{fields, give, put, remove, set_bucket_count};
 use crate::buckets::looking::{get, listed, load, root_text, whole};
 use crate::buckets::pages::{free, home, pages_of};
 use bucket_store::Buckets;
@@ -35,7 +35,7 @@ pub fn answer_of(
         "remove" => remove(alloc, buckets, text),
         "store" => give(alloc, buckets, text),
         "fields" => fields(alloc, buckets, text),
-        "buckets" => set_buckets(alloc, buckets, text),
+        "buckets" => set_bucket_count(alloc, buckets, text),
         _ => none(alloc),
     }
 }

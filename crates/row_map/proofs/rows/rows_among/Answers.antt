@@ -11,5 +11,5 @@ loop-table-preserved g c =
     let is = drop_item c.args.tables.now c.loop-table.table-index c.table-item.result c.loop-table-test.true c.table-item.is in (
       next,
       rows-more selections from c.args.key c.args.object.now c.args.tables.now c.loop-table.table-index c.loop-table.number _ _ _ _ _
-          c.loop-table.invariant.0 is c.in_ok-row_in.ensures.row c.in_ok-add_row.ensures.ok c.loop-table.invariant.1,
+          c.loop-table.invariant.0 is c.in_ok-row_among.ensures.row c.in_ok-add_row.ensures.ok c.loop-table.invariant.1,
     )

@@ -1,6 +1,6 @@
 -- One key more was judged.
 use Rattle.std.proofs.Common.{ℕ, Option, Some, false, sym, subst}
-use Rattle.store_check.specs.Judged.{IsAsked, IsFound, IsOne, Sees, row_number, rows_map}
+use Rattle.store_check.specs.Judged.{IsAsked, IsFound, IsOne, Sees, rows_key, rows_map}
 use Rattle.store_check.specs.Least.{with_key}
 use Rattle.store_check.specs.Values.{objects_of}
 use Rattle.store_check.specs.Wrong.{IsRightIn}
@@ -19,8 +19,8 @@ returns-in-Ok-Some g c = record {
       let source = c.args.source.map in
       let number = c.args.number in
       let old = c.args.wrong.now in
-      let found : IsFound Is (Asked source number) (row_number source number) (Some c.in-Ok-Some.key) =
-      subst (λ (found : Option ℕ). IsFound Is (Asked source number) (row_number source number) found) c.in-Ok-Some.field-0-is
+      let found : IsFound Is (Asked source number) (rows_key source number) (Some c.in-Ok-Some.key) =
+      subst (λ (found : Option ℕ). IsFound Is (Asked source number) (rows_key source number) found) c.in-Ok-Some.field-0-is
       (own nodes ways relations tells there) in
       subst (λ (new : Option ℕ). Sees Is Asked (IsOne source number) old new) (sym c.see.ensures.seen)
       (subst (λ (key : ℕ). Sees Is Asked (IsOne source number) old (with_key old key false)) (sym found.0)
@@ -33,6 +33,6 @@ returns-in-Ok-None g c = record {
       sees_right (IsRightIn c.args.style.now rest nodes ways relations (rows_map c.args.source.map)) (IsAsked (objects_of nodes ways relations))
       c.args.source.map c.args.number c.args.wrong.now
       (subst (λ (found : Option ℕ). IsFound (IsRightIn c.args.style.now rest nodes ways relations (rows_map c.args.source.map))
-      (IsAsked (objects_of nodes ways relations) c.args.source.map c.args.number) (row_number c.args.source.map c.args.number) found)
+      (IsAsked (objects_of nodes ways relations) c.args.source.map c.args.number) (rows_key c.args.source.map c.args.number) found)
       c.in-Ok-None.field-0-is (own nodes ways relations tells there)));
 }

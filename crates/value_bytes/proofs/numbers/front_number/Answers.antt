@@ -11,5 +11,5 @@ returns-clause-number c =
     let bytes = c.args.bytes.now in
     let front = c.split_at.ensures.front in
     let back = c.split_at.ensures.back in
-    number_front bytes c.number_in.result c.split_at.result.1.now
-    (record { is = omega arith; bytes_are = cc (take-append-drop 8 bytes, front, back, c.number_in.ensures.number) })
+    number_front bytes c.bytes_value.result c.split_at.result.1.now
+    (record { is = omega arith; bytes_are = cc (take-append-drop 8 bytes, front, back, c.bytes_value.ensures.number) })

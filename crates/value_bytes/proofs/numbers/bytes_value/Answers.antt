@@ -2,7 +2,7 @@ use Rattle.std.proofs.Common.{◌≡◌, ℕ, List, sym, ◌∙◌, ap, arith}
 use Rattle.std.proofs.lemmas.Nat.{le_bytes_8}
 use Rattle.std.specs.Int.{w64, from_le_bytes}
 use Rattle.value_bytes.specs.Numbers.{number_bytes}
-use Rattle.value_bytes.proofs.numbers.number_in.Goals as goal
+use Rattle.value_bytes.proofs.numbers.bytes_value.Goals as goal
 
 pub returns : goal.returns
 unfolding number_bytes

@@ -2,7 +2,7 @@ use Rattle.std.proofs.Common.{ℕ, List, ap, ◌∙◌}
 use Rattle.std.specs.Int.{w64, from_le_bytes}
 use Rattle.page_journal.specs.Pages.{number}
 use Rattle.page_journal.proofs.Bytes.{number-head_of, number_part}
-use Rattle.page_journal.proofs.reading.number_in.Goals as goal
+use Rattle.page_journal.proofs.reading.head_number.Goals as goal
 
 pub returns : goal.returns
 returns c = record {

@@ -6,7 +6,7 @@ use Rattle.row_rules.specs.Row.{cells_of, wants}
 use Rattle.row_rules.specs.Shape.{geometry_of}
 use Rattle.row_rules.proofs.NoRow.{no_row}
 use Rattle.row_rules.proofs.Unwanted.{shapeless}
-use Rattle.row_map.proofs.row.row_in.Goals as goal
+use Rattle.row_map.proofs.row.row_among.Goals as goal
 
 pub returns-then-not-may_have_geometry : goal.returns-then-not-may_have_geometry
 returns-then-not-may_have_geometry g c =
