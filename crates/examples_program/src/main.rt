@@ -6,23 +6,13 @@
 //! files may hold the texts of `texts.txt`. Each run is done by `run` of `updater` over files, a disk and an output
 //! in memory, and the name is printed, up to the first that differs. An append that says nothing of how many files are read ahead is
 //! run three times more, with none, one and eight: all that is wanted of it and the bytes of the disk are to be the same. A run may
-//! also be spoiled again and again, by each of its calls or by each page of its disk: see `src/sweep.rt`.
+//! also be spoiled again and again, by each of its calls or by each page of its disk: see `Sweep` of `example_runs`, which reads the rows.
 #![tactic(auto)]
 
-mod ahead;
-mod example;
-mod gate;
-mod rows;
 mod running;
-mod sweep;
 mod sweeping;
-mod texts;
-mod turn;
-mod wanted;
-mod watched;
-mod words;
 
-use example::Example;
+use example_runs::{Example, Texts, example_of};
 use example_table::{is_told, named_row, refuse_row, sides_of};
 use running::difference;
 use std::fs::{self, Files};
@@ -30,8 +20,6 @@ use std::io;
 use std::process::ExitCode;
 use std::sync::Wait;
 use std::thread::Threads;
-use texts::Texts;
-use words::example_of;
 
 fn main(rt: HostRuntime) -> io::Result<ExitCode> {
     let words = fs::read_to_string(&rt, "words.txt")?;

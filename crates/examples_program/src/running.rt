@@ -1,13 +1,11 @@
 //! The run of an example, over files, a disk and an output in memory.
 
-use crate::ahead::{OPTIONS, may_read_ahead, with_option};
-use crate::example::Example;
-use crate::gate::InTurn;
 use crate::sweeping::difference_spoiled;
-use crate::turn::{Plan, Put, Turn};
-use crate::wanted::{Piece, Wanted};
-use crate::watched::WatchedFiles;
 use doubles::{CrashPick, Fails, MemDisk, MemInputs, MemSink};
+use example_runs::{
+    Example, InTurn, OPTIONS, Piece, Plan, Put, Turn, Wanted, WatchedFiles, may_read_ahead,
+    with_option,
+};
 use osm_base::{Bytes, FileList, Ids};
 use run_promise::{Outcome, fault_line};
 use std::alloc::{AllocError, Global};

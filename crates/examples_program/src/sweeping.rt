@@ -1,8 +1,7 @@
 //! Runs that are spoiled again and again, and the check of what a crash leaves behind them.
 
 use crate::running::{Ended, ended_of};
-use crate::sweep::Sweep;
-use crate::turn::Turn;
+use example_runs::{Sweep, Turn};
 use std::alloc::{AllocError, Global};
 use std::sync::Wait;
 use std::thread::Threads;

@@ -1,4 +1,6 @@
 //! What is wanted of a run.
+ghost use Rattle.std.specs.Prelude.{◌≡◌, false};
+ghost use Rattle.std.specs.Bool.{OnTrue};
 
 use crate::rows::{push_bytes, set_number, set_text};
 use example_table::{bytes_of, named_row, number_in};
@@ -83,7 +85,9 @@ impl Wanted {
     }
 
     /// Whether this is what is to be printed.
-    pub fn is_printed(&self, bytes: &[u8]) -> bool {
+    pub fn is_printed(&self, bytes: &[u8]) -> bool
+        ensures same { OnTrue result (self.now.begun ≡ false → bytes.now ≡ self.now.printed.items) }
+    {
         bytes == self.printed.as_slice() || (self.begun && self.printed.starts_with(bytes))
     }
 

@@ -1,10 +1,14 @@
 //! What the rows of a run add to it. False, or `None`: a row is not in its form.
+ghost use Rattle.std.specs.Prelude.{◌≡◌};
+ghost use Rattle.std.specs.Bool.{OnFalse};
 
 use example_table::{bytes_of, number_in, unescaped, words_of};
 use std::alloc::{AllocError, Global};
 
-/// Sets a number.
-pub fn set_number(number: &mut u64, text: &str) -> bool {
+/// Sets a number. It stays where the text is none.
+pub fn set_number(number: &mut u64, text: &str) -> bool
+    ensures stays { OnFalse result (number.new ≡ number.old) }
+{
     match number_in(text) {
         Some(value) => {
             *number = value;
