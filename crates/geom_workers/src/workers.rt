@@ -1,11 +1,14 @@
 //! How many workers build.
-ghost use Rattle.std.specs.Prelude.{◌≡◌, ◌≤◌, ◌↔◌, IsSome, IfSome};
+ghost use Rattle.std.specs.Prelude.{◌≡◌, ◌≤◌, ◌↔◌, ◌/◌, min, max, IsSome, IfSome};
 ghost use Rattle.geom_workers.specs.Workers.{AreWorkers};
 
 use std::marker::Model;
 
 /// The most workers that may build.
 const MAX_WORKERS: u32 = 64;
+
+/// The fewest keys that are worth a thread's start.
+const KEYS_EACH: usize = 1024;
 
 /// A number of workers, from 1 to 64.
 #[derive(Clone, Copy, Debug, PartialEq, Eq)]
@@ -45,5 +48,15 @@ impl Workers {
         ensures within { AreWorkers result }
     {
         self.count
+    }
+
+    /// As many of them as so many keys are worth: one where the keys are few.
+    pub fn for_keys(self, keys: usize) -> Self
+        ensures count { result ≡ min self (max 1 (keys / KEYS_EACH)) }
+    {
+        let worth = (keys / KEYS_EACH).max(1).min(self.count as usize);
+        Self {
+            count: worth as u32,
+        }
     }
 }

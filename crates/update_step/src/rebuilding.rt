@@ -25,7 +25,7 @@ use crate::pending_keys::PendingKeys;
 use crate::row_lists::{NewRows, all_before, keys_in, put_rows};
 use crate::turns::turns_of;
 use dep_closure::reaches_nodes;
-use geom_workers::{Hands, build_all};
+use geom_workers::{Hands, build_all, key_count};
 use object_fold::Change;
 use osm_base::{Key, RowChanges};
 use outside::Gate;
@@ -96,7 +96,15 @@ pub(crate) fn rebuild<S: MapStore, R: Threads + Sync, G: Gate>(
     let keys = keys_in(alloc, pending)?;
     let keys = keys.as_slice();
     let known = gathered(alloc, store, change, style, reaches_nodes(style), keys)?;
-    let built = build_all(hands, style, &pending.set, &known)?;
+    let few = Hands {
+        rt: hands.rt,
+        alloc,
+        workers: hands.workers.for_keys(key_count(&pending.set)),
+        gate: hands.gate,
+    };
+    let built = build_all(&few, style, &pending.set, &known)?;
+    // What the rows were built of is let go before they are kept: of a large change it is as much as they are.
+    drop(known);
     let rows = built.rows.as_slice();
     let news = NewRows { keys, rows };
     replace(alloc, store, style, bounds, lacking, news, due)
