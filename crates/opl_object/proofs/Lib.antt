@@ -1,3 +1,4 @@
+pub mod AsciiFronts
 pub mod Causes
 pub mod Cuts
 pub mod Digits
@@ -28,9 +29,11 @@ pub mod SpelledNumbers
 pub mod SpelledTags
 pub mod SpelledTexts
 pub mod Steps
+pub mod TimeForms
 pub mod Units
 pub mod UsualNodes
 pub mod UsualTags
+pub mod WithinLanes
 pub mod Writable
 pub mod WrittenLines
 pub mod WrittenNumbers

@@ -1,6 +1,7 @@
 //! A whole line.
-ghost use Rattle.std.specs.Prelude.{◌≡◌, ◌≢◌, ◌↔◌, ◌≤ℤ◌, ◌∷◌, neg_ℤ, ℕ, List, Option, None, Some, Result, Ok, Err, IsFalse, IsSome, IfSome, IfOk, IfErr, IsOkAnd};
+ghost use Rattle.std.specs.Prelude.{◌≡◌, ◌≢◌, ◌↔◌, ◌≤◌, ◌≤ℤ◌, ◌∷◌, neg_ℤ, ℕ, List, Option, None, Some, Result, Ok, Err, IsFalse, IsSome, IfSome, IfOk, IfErr, IsOkAnd, length, take};
 ghost use Rattle.std.specs.List.{before_first};
+ghost use Rattle.std.specs.Str.{IsAscii};
 ghost use Rattle.osm_base.specs.declared.values.object.Entry.{Entry};
 ghost use Rattle.osm_base.specs.values.Key.{KeyOf};
 ghost use Rattle.opl_object.specs.declared.why.Why.{Why};
@@ -17,6 +18,7 @@ ghost use Rattle.opl_object.specs.Why.{Gives, Tells};
 ghost use Rattle.opl_object.specs.Written.{IsWritable};
 
 use crate::fields::{ends_at, next_field};
+use crate::lanes::{LANES, begins_ascii};
 use crate::members::kind_at;
 use crate::number::{id_of, usual_id};
 use crate::parts::{Parts, read_fields};
@@ -77,10 +79,24 @@ fn read_counted(alloc: Global, usual: bool, line: &[u8]) -> Result<Option<Entry>
 fn utf8_of(line: &[u8]) -> Result<&str, Why>
     ensures text { Tells (λ text. text.now) result (utf8_of line.now) }
 {
-    match str::from_utf8(line) {
-        Ok(text) => Ok(text),
+    // What is ASCII in front needs no test: what stands behind it is UTF-8 just where all is.
+    let front = ascii_len(line);
+    match str::from_utf8(&line[front..]) {
+        Ok(_) => Ok(unsafe { str::from_utf8_unchecked(line) }),
         Err(_) => Err(Why::Utf8),
     }
+}
+
+/// How many bytes at the front, in sixteens, are surely ASCII.
+fn ascii_len(line: &[u8]) -> usize
+    ensures within { result ≤ length line.now }
+    ensures ascii { IsAscii (take result line.now) }
+{
+    let mut len = 0;
+    while LANES <= line.len() - len && begins_ascii(&line[len..]) {
+        len += LANES;
+    }
+    len
 }
 
 /// Whether a line is skipped: it is empty, or begins with `#` or `c`.

@@ -9,10 +9,23 @@ ghost use Rattle.opl_object.specs.Nodes.{digits_len};
 
 use crate::Why;
 use crate::ascii::DIGIT_0;
+use crate::lanes::{LANES, all_within};
 use osm_base::MAX_ID;
 
 /// The form of a time, with a zero where a digit stands.
 pub const TIME_FORM: [u8; 20] = *b"0000-00-00T00:00:00Z";
+
+/// The first sixteen bytes of the form.
+const FRONT_FORM: [u8; LANES] = *b"0000-00-00T00:00";
+
+/// How far behind each of them a byte of a time may be.
+const FRONT_ROOM: [u8; LANES] = [9, 9, 9, 9, 0, 9, 9, 0, 9, 9, 0, 9, 9, 0, 9, 9];
+
+/// The last sixteen bytes of the form, which begin with the last twelve of those.
+const BACK_FORM: [u8; LANES] = *b"-00-00T00:00:00Z";
+
+/// How far behind each of them a byte of a time may be.
+const BACK_ROOM: [u8; LANES] = [0, 9, 9, 0, 9, 9, 0, 9, 9, 0, 9, 9, 0, 9, 9, 0];
 
 /// The greatest number of digits of an id or of another whole number.
 pub(crate) const WHOLE_DIGITS: usize = 19;
@@ -71,23 +84,8 @@ pub(crate) fn all_formed(text: &[u8]) -> bool
     requires { length text.now ≡ 20 }
     ensures value { result ≡ list_all is_formed (zip TIME_FORM text.now) }
 {
-    // No byte ends the loop, so that several are tested at once.
-    let mut all = true;
-    for (place, &byte) in text.iter().enumerate() {
-        all &= is_formed(TIME_FORM[place], byte);
-    }
-    all
-}
-
-/// Whether a byte is a digit where the form has one, and else the form's own.
-fn is_formed(form: u8, byte: u8) -> bool
-    ensures value { result ≡ is_formed (form, byte) }
-{
-    if form.is_ascii_digit() {
-        byte.is_ascii_digit()
-    } else {
-        byte == form
-    }
+    all_within(&text[..LANES], FRONT_FORM, FRONT_ROOM)
+        & all_within(&text[4..], BACK_FORM, BACK_ROOM)
 }
 
 /// The id that the text is.
@@ -137,6 +135,21 @@ pub(crate) fn small_number(front: u64, text: &[u8]) -> Option<(u64, usize)>
         }
     }
     Some((value, text.len()))
+}
+
+/// The number that so few digits write behind those of a small number.
+#[inline(always)]
+pub(crate) fn few_digits(front: u64, digits: &[u8]) -> u64
+    requires small { front ≤ SMALL }
+    requires few { length digits.now ≤ 7 }
+    requires digits { IsTrue (list_all is_ascii_digit digits.now) }
+    ensures value { result ≡ digits_value_after 10 front digits.now }
+{
+    let mut value = front;
+    for &digit in digits {
+        value = value * 10 + u64::from(digit - DIGIT_0);
+    }
+    value
 }
 
 /// The id in front of a text, and how many digits it has. `None`: there is none, or none that is small.

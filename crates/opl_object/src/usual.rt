@@ -1,7 +1,9 @@
 //! Values at the front of a text in the form that files mostly have: one pass tests them and finds where they end.
 ghost use Rattle.std.specs.Prelude.{◌≡◌, ◌≤◌, ◌<◌, ◌^◌, ◌-◌, ◌+◌, ◌≤ℤ◌, pos, neg_ℤ, [], ◌∷◌, IsTrue, IfSome, if◌then◌else◌, length, take};
 ghost use Rattle.std.specs.List.{position_or_len};
+ghost use Rattle.std.specs.Str.Parse.{digits_value_after};
 ghost use Rattle.opl_object.specs.Fields.{IsValueEnd, is_blank};
+ghost use Rattle.opl_object.specs.Nodes.{digits_len};
 ghost use Rattle.opl_object.specs.Number.{is_whole, is_time};
 ghost use Rattle.opl_object.specs.Spelling.{SpellsUnits, SpellsCoordinate};
 ghost use Rattle.opl_object.specs.Text.{is_plain, is_reserved};
@@ -9,8 +11,8 @@ ghost use Rattle.opl_object.specs.Text.{is_plain, is_reserved};
 use crate::ascii::{CAPITAL_V, POINT};
 use crate::coordinate::with_sign;
 use crate::fields::{digits_len, ends_at};
-use crate::lanes::bare_run;
-use crate::number::{SMALL, TIME_FORM, WHOLE_DIGITS, all_formed, signed, small_number};
+use crate::lanes::{LANES, bare_run, digits_run};
+use crate::number::{SMALL, TIME_FORM, WHOLE_DIGITS, all_formed, few_digits, signed, small_number};
 use crate::text::is_reserved;
 
 /// What a number is to be multiplied with to be one of 1e-7 degree, by its decimals.
@@ -123,11 +125,29 @@ fn usual_units(text: &[u8]) -> Option<(u64, usize)>
     let Some(decimals) = behind_point(&text[len..]) else {
         return Some((whole * scale(0), len));
     };
-    let (value, count) = small_number(whole, decimals)?;
+    let (value, count) = decimals_behind(whole, decimals)?;
     if count < 1 || DECIMALS < count {
         return None;
     }
     Some((value * scale(count), len + 1 + count))
+}
+
+/// The number that the decimals in front write behind those of a number, and how many they are. `None`: it is not small.
+fn decimals_behind(whole: u64, text: &[u8]) -> Option<(u64, usize)>
+    requires { whole ≤ SMALL }
+    ensures len { IfSome result (λ (_, len). len ≡ digits_len text.now) }
+    ensures value { IfSome result (λ (value, len). value ≡ digits_value_after 10 whole (take len text.now)) }
+    ensures small { IfSome result (λ (value, _). value ≤ SMALL) }
+{
+    // Most files have all seven.
+    if text.len() < LANES || digits_run(text) != DECIMALS {
+        return small_number(whole, text);
+    }
+    let value = few_digits(whole, &text[..DECIMALS]);
+    if SMALL < value {
+        return None;
+    }
+    Some((value, DECIMALS))
 }
 
 /// What stands behind a point, where one stands in front.
