@@ -92,7 +92,7 @@ FEED is wrong.
 ";
 
 /// The version, and the line of the kit that proves the program.
-const VERSION: &str = "yilgartzu 0.4.11 (rattle-kit-13f logic dac8208d650f15bf)\n";
+const VERSION: &str = "yilgartzu 0.4.12 (rattle-kit-13f logic dac8208d650f15bf)\n";
 
 /// The variable that says whether the program tells how far it is: `1`, where standard error is a terminal.
 const TELLS: &str = "YILGARTZU_PROGRESS";
