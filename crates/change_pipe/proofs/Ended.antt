@@ -2,8 +2,8 @@
 use Rattle.std.proofs.Common.{◌≡◌, ℕ, Option, Some, None, List, [], ◌∷◌, ◌++◌, sym, ap}
 use Rattle.osm_base.specs.declared.bounds.limits.LimitNumbers.{LimitNumbers}
 use Rattle.osm_base.specs.declared.values.object.Entry.{Entry}
-use Rattle.object_fold.specs.Lots.{ReadsNoFurtherThan}
-use Rattle.object_fold.specs.Reading.{HasEntries}
+use Rattle.opl_files.specs.Lots.{ReadsNoFurtherThan}
+use Rattle.opl_files.specs.Reading.{HasEntries}
 
 -- behind nothing comes nothing
 last_none : (before last later : List ℕ) → [] ≡ before ++ (last ++ later) → later ≡ []

@@ -6,7 +6,7 @@ use Rattle.osm_base.specs.declared.bounds.limits.LimitNumbers.{LimitNumbers}
 use Rattle.outside.specs.Bytes.{BothKnown}
 use Rattle.outside.specs.Causes.{Rose}
 use Rattle.outside.specs.Inputs.{FilesView}
-use Rattle.object_fold.specs.Reading.{ReadsNoOther}
+use Rattle.outside.specs.Reads.{ReadsNoOther}
 use Rattle.change_pipe.specs.declared.parcel.Parcel.{Parcel}
 use Rattle.change_pipe.specs.Files.{AreRead, Beside, Between, HasAll, ReadsAmong}
 use Rattle.change_pipe.specs.Parcels.{AreParcels, HasFailed, IsAtEnd, IsParcelOf, IsReadAs, IsReadFault, IsWhole}

@@ -4,10 +4,10 @@ use Rattle.osm_base.specs.declared.bounds.limits.LimitNumbers.{LimitNumbers}
 use Rattle.outside.specs.Bytes.{BothKnown, IfTold}
 use Rattle.outside.specs.Causes.{Rose}
 use Rattle.outside.specs.Inputs.{FilesView}
-use Rattle.object_fold.specs.Entries.{entries_of}
-use Rattle.object_fold.specs.Reading.{IsFaultOf}
-use Rattle.object_fold.specs.Stops.{Stops}
-use Rattle.object_fold.specs.declared.fault.FileFault.TheVariants as faults
+use Rattle.opl_files.specs.Entries.{entries_of}
+use Rattle.opl_files.specs.Reading.{IsFaultOf}
+use Rattle.opl_files.specs.Stops.{Stops}
+use Rattle.opl_files.specs.declared.fault.FileFault.TheVariants as faults
 use Rattle.change_pipe.specs.declared.parcel.Parcel.{Parcel}
 use Rattle.change_pipe.specs.declared.parcel.ParcelBody.{ParcelBody}
 use Rattle.change_pipe.specs.declared.parcel.ParcelBody.TheVariants.{Whole, Refused}

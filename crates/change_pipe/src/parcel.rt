@@ -1,9 +1,10 @@
 //! What a file of changes was read as.
 ghost use Rattle.std.specs.Prelude.{◌≡◌, ◌↔◌, IsTrue};
-ghost use Rattle.object_fold.specs.Reading.{ReadsNoOther};
+ghost use Rattle.outside.specs.Reads.{ReadsNoOther};
 ghost use Rattle.change_pipe.specs.Parcels.{IsParcelOf, IsWhole};
 
-use object_fold::{Change, FileFault, WorkerCount, read_parallel};
+use object_fold::{Change, WorkerCount};
+use opl_files::{FileFault, read_parallel};
 use osm_base::Limits;
 use outside::Inputs;
 use std::alloc::Global;

@@ -1,7 +1,7 @@
 -- A block of a file, from one line to the next.
 use Rattle.std.proofs.Common.{◌≡◌, ℕ, ◌&&◌, Bool, true, false, List, ◌++◌, Option, Some, None, refl, sym, ap, ◌∙◌, subst, inl, inr}
 use Rattle.std.specs.Prelude.{IfSome, codes}
-use Rattle.object_fold.specs.Whole.{MovesBytes}
+use Rattle.outside.specs.Reads.{MovesBytes}
 use Rattle.opl_lines.specs.Lines.{lines_of}
 use Rattle.osm_base.specs.declared.bounds.limits.LimitNumbers.{LimitNumbers}
 use Rattle.outside.specs.Bytes.{BothKnown}

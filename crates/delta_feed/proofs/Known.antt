@@ -1,7 +1,7 @@
 -- What is known of the bytes of a file, from one call to the next.
 use Rattle.std.proofs.Common.{◌≡◌, ℕ, ◌+◌, List, ◌++◌, Option, Some, None, replicate, ◌∙◌, arith, subst}
 use Rattle.std.proofs.lemmas.List.{replicate-append-replicate}
-use Rattle.object_fold.specs.Reading.{ReadsNoOther}
+use Rattle.outside.specs.Reads.{ReadsNoOther}
 use Rattle.outside.specs.Inputs.{FilesView}
 use Rattle.outside.specs.Bytes.{BothKnown}
 use Rattle.std.specs.Prelude.{IfSome}

@@ -4,7 +4,7 @@ use Rattle.std.specs.Prelude.{IfNone, IfSome, if◌then◌else◌}
 use Rattle.std.specs.Option.{option_to_list}
 use Rattle.std.proofs.lemmas.Bool.{eq-eqb, false≢true, lt-ltb, ne_eqb}
 use Rattle.std.proofs.lemmas.List.{drop_all}
-use Rattle.object_fold.specs.Whole.{MovesBytes}
+use Rattle.outside.specs.Reads.{MovesBytes}
 use Rattle.opl_lines.proofs.LineLemmas.{lines_of-none}
 use Rattle.opl_lines.specs.Lines.{IsWithinLine, first_of, lines_of}
 use Rattle.opl_lines.specs.declared.reader.TheConstants.{NEWLINE}

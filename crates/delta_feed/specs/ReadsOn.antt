@@ -1,6 +1,6 @@
 -- What a call of a reader leaves alone, and why it may stop.
 use Rattle.std.specs.Prelude.{ℕ, List, Result, IfErr}
-use Rattle.object_fold.specs.Reading.{ReadsNoOther}
+use Rattle.outside.specs.Reads.{ReadsNoOther}
 use Rattle.outside.specs.Causes.{Rose}
 use Rattle.outside.specs.Inputs.{FilesView}
 use Rattle.delta_feed.specs.Feeding.{IsSameReader}

@@ -1,7 +1,6 @@
 //! The bytes of a file that were read and not yet taken.
 ghost use Rattle.std.specs.Prelude.{◌≡◌, ◌<◌, ◌≤◌, ◌++◌, ℕ, List, [], true, false, length, drop, IfOk, IfErr, OnOk};
-ghost use Rattle.object_fold.specs.Reading.{ReadsNoOther, ReadsOnce};
-ghost use Rattle.object_fold.specs.Whole.{MovesBytes};
+ghost use Rattle.outside.specs.Reads.{ReadsNoOther, ReadsOnce, MovesBytes};
 ghost use Rattle.opl_lines.specs.Lines.{IsWithinLine};
 ghost use Rattle.outside.specs.Causes.{Rose};
 ghost use Rattle.delta_feed.specs.Stops.{StopsOutside};

@@ -1,8 +1,7 @@
 //! The blocks of a file, one after another.
 ghost use Rattle.std.specs.Prelude.{◌≡◌, ◌<◌, ◌≤◌, ◌+◌, ◌++◌, ℕ, List, [], Ok, true, false, codes, length, IfOk, IfErr, IfSome, OnOk};
 ghost use Rattle.std.specs.Option.{option_copied};
-ghost use Rattle.object_fold.specs.Reading.{ReadsNoOther};
-ghost use Rattle.object_fold.specs.Whole.{MovesBytes};
+ghost use Rattle.outside.specs.Reads.{ReadsNoOther, MovesBytes};
 ghost use Rattle.opl_lines.specs.Lines.{IsWithinLine, lines_of};
 ghost use Rattle.opl_lines.specs.Reading.{begun, room};
 ghost use Rattle.outside.specs.Bytes.{BothKnown};

@@ -17,9 +17,9 @@ use Rattle.opl_object.specs.Written.{entry_text, line_text}
 use Rattle.opl_object.proofs.SpelledLines.{line_again}
 use Rattle.opl_object.proofs.WrittenLines.{line_spelled}
 use Rattle.object_fold.specs.Change.{Follows, IsChange, RiseFrom, last_key}
-use Rattle.object_fold.specs.Entries.{entries_of, first_fault}
-use Rattle.object_fold.specs.Passed.{count_fault, entry_in, line_fault, order_fault, passed_by, spelled, spelled_by, text_fault}
-use Rattle.object_fold.specs.declared.passed.Passed.{Passed}
+use Rattle.opl_files.specs.Entries.{entries_of, first_fault}
+use Rattle.opl_files.specs.Passed.{count_fault, entry_in, line_fault, order_fault, passed_by, spelled, spelled_by, text_fault}
+use Rattle.opl_files.specs.declared.passed.Passed.{Passed}
 use Rattle.demo_map.specs.Written.{FitsLine}
 use Rattle.demo_map.proofs.WrittenLine.{line_within}
 

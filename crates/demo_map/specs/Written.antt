@@ -5,7 +5,7 @@ use Rattle.osm_base.specs.declared.bounds.limits.TheConstants.{MAX_LINE_BYTES}
 use Rattle.osm_base.specs.declared.values.object.Entry.{Entry}
 use Rattle.osm_base.specs.values.Key.{IsId}
 use Rattle.opl_object.specs.Written.{IsSound, IsWritable, entry_text, line_text}
-use Rattle.object_fold.specs.Entries.{entries_of}
+use Rattle.opl_files.specs.Entries.{entries_of}
 
 -- an entry that can be written, whose id, place, members and texts are as the types have them, in a line that is not too long
 pub record FitsLine (entry : Entry) : Type 0 where

@@ -10,7 +10,7 @@ ghost use Rattle.dep_closure.specs.Selecting.{selects, has_member, reselects, se
 
 use object_fold::{Change, Objects};
 use osm_base::{Entry, Kind, Lookup, MAX_ID, Member, Object, OutOfMemory, Tags};
-use row_map::meets;
+use row_rules::meets;
 use style_read::{Selection, Style};
 
 /// Adds the ids of the objects of one kind that are members, before a change or after it, of a

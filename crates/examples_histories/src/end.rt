@@ -1,7 +1,7 @@
 //! Why an example ends before its last step.
 ghost use Rattle.std.specs.Prelude.{◌≡◌};
 
-use object_fold::FileFault;
+use opl_files::FileFault;
 use osm_base::OutOfMemory;
 use std::alloc::AllocError;
 use update_flow::FlowFault;

@@ -3,7 +3,8 @@ ghost use Rattle.std.specs.Prelude.{◌<◌};
 
 use crate::entries::{inputs_of, put_entries};
 use crate::handing::Copies;
-use object_fold::{Change, read_by_lots, scan_by_lots};
+use object_fold::Change;
+use opl_files::{read_by_lots, scan_by_lots};
 use osm_base::Limits;
 use std::alloc::{AllocError, Global};
 use std::thread::Threads;

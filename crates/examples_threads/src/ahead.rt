@@ -8,7 +8,7 @@ use change_pipe::{
 };
 use doubles::{Fails, MemInputs};
 use example_table::{bytes_of, named_row, number_in};
-use object_fold::FileFault;
+use opl_files::FileFault;
 use osm_base::{Bytes, FileList, Ids, Limits};
 use std::alloc::Global;
 use std::sync::Wait;

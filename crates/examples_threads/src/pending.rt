@@ -7,7 +7,8 @@ ghost use Rattle.osm_base.specs.values.Key.{IsId};
 use crate::refusal::Refusal;
 use doubles::{Fails, MemInputs};
 use example_table::{bytes_of, number_in};
-use object_fold::{Change, Objects, RisingIds, read_file};
+use object_fold::{Change, Objects, RisingIds};
+use opl_files::read_file;
 use osm_base::{Bytes, FileList, Ids, Limits, MAX_ID, PendingSet, TryCopy};
 use std::alloc::Global;
 

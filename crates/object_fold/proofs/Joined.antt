@@ -1,8 +1,11 @@
 -- Entries that rise, behind others.
-use Rattle.std.proofs.Common.{◌≡◌, ◌++◌, ◌∷◌, [], List, Option, Some, None, refl}
+use Rattle.std.proofs.Common.{◌≡◌, ◌∙◌, ◌++◌, ◌∷◌, [], List, Option, Some, None, append_assoc, refl, sym}
+use Rattle.std.proofs.lemmas.List.{append-nil}
+use Rattle.std.specs.Prelude.{fold}
 use Rattle.osm_base.specs.declared.values.object.Entry.{Entry}
 use Rattle.osm_base.specs.values.Key.{KeyOf}
 use Rattle.object_fold.specs.Change.{Follows, RiseFrom, last_key}
+use Rattle.object_fold.specs.Keeps.{pushed}
 
 -- what rises behind one key rises behind another, where each that comes after the one comes after the other
 rise_after : (last other : Option KeyOf) (entries : List Entry) → ((next : KeyOf) → Follows last next → Follows other next)
@@ -35,3 +38,8 @@ pub follows_joined : (last : Option KeyOf) (front entries : List Entry)
     → Follows (last_key last entries) next → Follows (last_key None (front ++ entries)) next
 follows_joined last front entries later next follows =
     rw (last_on None front entries) (follows_last last (last_key None front) entries later next follows)
+
+-- what one pushes on comes behind
+pub fold-pushed : (front entries : List Entry) → fold pushed front entries ≡ front ++ entries
+fold-pushed front [] = sym (append-nil front)
+fold-pushed front (entry ∷ entries) = fold-pushed (front ++ entry ∷ []) entries ∙ simp (append_assoc) refl

@@ -1,17 +1,12 @@
--- What becomes of one who is given the entries of a file in order.
-use Rattle.std.specs.Prelude.{List, [], ◌∷◌, ◌++◌, fold, Option, None, Some, Result, Ok, Err}
+-- Who is given the entries of a file in order, and one who adds each to a list.
+use Rattle.std.specs.Prelude.{List, [], ◌∷◌, ◌++◌, Option}
 use Rattle.osm_base.specs.declared.values.object.Entry.{Entry}
-use Rattle.object_fold.specs.declared.fault.FileFault.{FileFault}
+use Rattle.osm_base.specs.values.Key.{KeyOf}
+use Rattle.object_fold.specs.Change.{Follows}
 
--- given an entry, if there is one
-abbrev pub kept : {K : Type 0} → (K → Entry → K) → K → Option Entry → K
-kept after keeper None = keeper
-kept after keeper (Some entry) = after keeper entry
-
--- given all entries of a file, unless it has a fault
-abbrev pub kept_all : {K : Type 0} → (K → Entry → K) → K → Result (List Entry) FileFault → Result K FileFault
-kept_all after keeper (Ok entries) = Ok (fold after keeper entries)
-kept_all after keeper (Err fault) = Err fault
+-- one who may be given each entry that comes after the last one
+abbrev pub TakesNext : {K : Type 0} → (K → KeyOf → Type 0) → Option KeyOf → K → Type 0
+TakesNext takes last keeper = (next : KeyOf) → Follows last next → takes keeper next
 
 -- one who adds each entry at the end
 abbrev pub pushed : List Entry → Entry → List Entry

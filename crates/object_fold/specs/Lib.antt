@@ -1,16 +1,6 @@
-pub mod Ahead
 pub mod Change
-pub mod Entries
 pub mod Keeps
 pub mod Listing
 pub mod Listings
-pub mod Lots
 pub mod Objects
-pub mod Parts
-pub mod Passed
-pub mod Progress
-pub mod Reading
-pub mod ReadsOnly
 pub mod RisingIds
-pub mod Stops
-pub mod Whole

@@ -42,11 +42,11 @@ impl Change {
         }
     }
 
-    /// No entry. Entries will stand in this room.
-    pub(crate) fn over(room: Vec<Entry>) -> Self
-        requires empty { room.items ≡ [] }
+    /// No entry. Entries will stand in this room, and what stands there is let go.
+    pub fn over(mut room: Vec<Entry>) -> Self
         ensures empty { result ≡ [] }
     {
+        room.clear();
         Self { entries: room }
     }
 

@@ -4,7 +4,7 @@ ghost use Rattle.osm_base.specs.values.Key.{KeyOf};
 ghost use Rattle.osm_base.specs.values.KeyOrder.{is_below};
 ghost use Rattle.osm_base.specs.declared.values.object.Entry.{Entry as EntryOf};
 ghost use Rattle.object_fold.specs.Change.{IsProper, RiseFrom, last_key};
-ghost use Rattle.object_fold.specs.Reading.{TakesNext};
+ghost use Rattle.object_fold.specs.Keeps.{TakesNext};
 
 use osm_base::{Entry, Key, OutOfMemory};
 

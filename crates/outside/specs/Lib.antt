@@ -4,5 +4,6 @@ pub mod Counts
 pub mod Disk
 pub mod FileDisk
 pub mod Inputs
+pub mod Reads
 pub mod Sink
 pub mod StdSink

@@ -1,13 +1,13 @@
 //! Conditions on the tags of an object, and on the relations that it is a member of.
-ghost use Rattle.std.specs.Prelude.{◌≡◌, ◌<◌, length, false};
+ghost use Rattle.std.specs.Prelude.{◌≡◌, ◌<◌, length};
 ghost use Rattle.std.specs.List.{list_all, list_any};
-ghost use Rattle.std.specs.Str.{chars};
 ghost use Rattle.row_rules.specs.Condition as spec;
 ghost use Rattle.row_rules.specs.Condition.{meets_number};
 ghost use Rattle.row_rules.specs.Material.{is_selected, selecting_among};
 
 use crate::relations::Relations;
-use osm_base::{Lookup, Tags, Text};
+use osm_base::{Lookup, Tags};
+use row_rules::{holds_of_tags, meets};
 use style_read::{Condition, Selection, Style, TableDef};
 
 /// Whether a relation with these tags meets a selection.
@@ -25,41 +25,6 @@ pub(crate) fn meets_number(selections: &[Selection], number: u32, tags: &Tags) -
     match selections.get(number as usize) {
         Some(selection) => meets(selection, tags),
         None => false,
-    }
-}
-
-/// Whether a relation with these tags meets a selection.
-pub fn meets(selection: &Selection, tags: &Tags) -> bool
-    ensures meets { result ≡ spec.meets selection.now tags.now }
-{
-    for condition in selection.conditions.as_slice() {
-        if !holds_of_tags(condition, tags) {
-            return false;
-        }
-    }
-    true
-}
-
-/// Whether the tag with a key has this value.
-fn has_value(tags: &Tags, key: &str, value: &Text) -> bool
-    ensures value { result ≡ spec.has_value tags.now (chars key.now) value.now }
-{
-    match tags.get(key) {
-        Some(own) => value.is(own),
-        None => false,
-    }
-}
-
-/// Whether a condition holds of tags; none holds that asks for a selection.
-pub(crate) fn holds_of_tags(condition: &Condition, tags: &Tags) -> bool
-    ensures holds { result ≡ spec.holds (λ _. false) tags.now condition.now }
-{
-    match condition {
-        Condition::Has(key) => tags.get(key.as_str()).is_some(),
-        Condition::Lacks(key) => tags.get(key.as_str()).is_none(),
-        Condition::Is { key, value } => has_value(tags, key.as_str(), value),
-        Condition::Isnt { key, value } => !has_value(tags, key.as_str(), value),
-        Condition::Selected(_) => false,
     }
 }
 

@@ -18,7 +18,7 @@ mod tags_text;
 mod values;
 mod wanted;
 
-pub use condition::{meets, selects};
+pub use condition::selects;
 pub use row::row_of;
 pub use rows::rows_of;
 pub use wanted::may_have_rows;

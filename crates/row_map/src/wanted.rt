@@ -4,10 +4,10 @@ ghost use Rattle.std.specs.List.{list_all, list_any};
 ghost use Rattle.row_rules.specs.Condition.{holds};
 ghost use Rattle.row_rules.specs.Wanted as spec;
 
-use crate::condition::holds_of_tags;
 use crate::geometry::may_have_geometry;
 use crate::row::tags_of;
 use osm_base::{Object, Tags};
+use row_rules::holds_of_tags;
 use style_read::{Condition, Style, TableDef};
 
 /// Whether a condition may hold of an object with these tags.

@@ -3,11 +3,11 @@
 use Rattle.std.specs.Prelude.{◌≡◌, ◌≤◌, ◌<◌, ◌+◌, ℕ, List, length, map, Result, Ok, Err}
 use Rattle.osm_base.specs.bounds.Limits.{standard}
 use Rattle.osm_base.specs.declared.values.object.Entry.{Entry}
-use Rattle.object_fold.specs.Entries.{entries_of}
-use Rattle.object_fold.specs.declared.fault.FileFault.{FileFault}
-use Rattle.object_fold.specs.declared.fault.FileFault.TheVariants as file_faults
-use Rattle.object_fold.specs.declared.whole.WholeFault.{WholeFault}
-use Rattle.object_fold.specs.declared.whole.WholeFault.TheVariants as wholes
+use Rattle.opl_files.specs.Entries.{entries_of}
+use Rattle.opl_files.specs.declared.fault.FileFault.{FileFault}
+use Rattle.opl_files.specs.declared.fault.FileFault.TheVariants as file_faults
+use Rattle.opl_files.specs.declared.whole.WholeFault.{WholeFault}
+use Rattle.opl_files.specs.declared.whole.WholeFault.TheVariants as wholes
 use Rattle.map_query.specs.Line.{query_of}
 use Rattle.map_query.specs.Reading.{IsFirstBad}
 use Rattle.map_query.specs.declared.fault.QueryFault.{QueryFault}

@@ -8,7 +8,7 @@ ghost use Rattle.run_promise.specs.Files.{bounds_fault, fault_in, query_fault, s
 use crate::files::MAX_WHOLE;
 use delta_feed::{FeedFault, FeedWhy};
 use map_query::{QueryFault, QueryWhy};
-use object_fold::{FileFault, WholeFault};
+use opl_files::{FileFault, WholeFault};
 use opl_object::Why;
 use osm_base::{Kind, LimitKind, OutOfMemory, Text};
 use page_journal::StoreFault;

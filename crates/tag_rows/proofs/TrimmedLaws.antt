@@ -4,11 +4,11 @@ use Rattle.std.specs.FinMap as finite
 use Rattle.std.specs.Str.{chars}
 use Rattle.osm_base.specs.declared.bounds.limits.LimitNumbers.{LimitNumbers}
 use Rattle.osm_base.specs.declared.values.object.Entry.{Entry}
-use Rattle.object_fold.specs.declared.fault.FileFault.{FileFault}
-use Rattle.object_fold.specs.Entries.{entries_of}
+use Rattle.opl_files.specs.declared.fault.FileFault.{FileFault}
+use Rattle.opl_files.specs.Entries.{entries_of}
 use Rattle.osm_base.specs.map.Objects.{folded_all}
-use Rattle.object_fold.specs.Keeps.{kept_all}
-use Rattle.object_fold.specs.Reading.{ReadsAll}
+use Rattle.opl_files.specs.Keeps.{kept_all}
+use Rattle.opl_files.specs.Reading.{ReadsAll}
 use Rattle.tag_rows.specs.TrimmedChange.{TrimmedEntries, trimmed_entry, with_entry}
 use Rattle.tag_rows.specs.Lines.{lines_text, lines_text_of}
 use Rattle.tag_rows.specs.WayRows.{WaysRead, after_way, no_ways}

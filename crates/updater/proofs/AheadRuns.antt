@@ -12,11 +12,12 @@ use Rattle.outside.specs.Causes.{Rose}
 use Rattle.outside.specs.Inputs.{FilesView}
 use Rattle.outside.specs.Sink.{SinkView}
 use Rattle.outside.specs.declared.disk.Disk.{Ghosts}
-use Rattle.object_fold.specs.Entries.{entries_of}
-use Rattle.object_fold.specs.Reading.{HasEntries, IsFaultOf, IsReadAlone}
-use Rattle.object_fold.specs.Stops.{Stops}
-use Rattle.object_fold.specs.declared.fault.FileFault.{FileFault}
-use Rattle.object_fold.specs.declared.fault.FileFault.TheVariants as file_faults
+use Rattle.opl_files.specs.Entries.{entries_of}
+use Rattle.opl_files.specs.Reading.{HasEntries, IsFaultOf}
+use Rattle.outside.specs.Reads.{IsReadAlone}
+use Rattle.opl_files.specs.Stops.{Stops}
+use Rattle.opl_files.specs.declared.fault.FileFault.{FileFault}
+use Rattle.opl_files.specs.declared.fault.FileFault.TheVariants as file_faults
 use Rattle.change_pipe.specs.Files.{AreRead, ReadsAmong}
 use Rattle.change_pipe.specs.Parcels.{HasFailed, IsAtEnd, IsReadAs, IsReadFault, IsWhole, IsWholeBody}
 use Rattle.change_pipe.specs.declared.parcel.Parcel.{Parcel}

@@ -14,14 +14,15 @@ use Rattle.opl_lines.specs.Lines.{lines_of}
 use Rattle.outside.specs.Bytes.{IfTold}
 use Rattle.outside.specs.Causes.{Rose}
 use Rattle.outside.specs.Inputs.{FilesView}
-use Rattle.object_fold.specs.Entries.{IsAccepted, entries_of}
-use Rattle.object_fold.specs.Reading.{HasEntries, IsFaultOf, IsReadAlone}
-use Rattle.object_fold.specs.Stops.{Stops}
-use Rattle.object_fold.specs.Whole.{IsOver, IsWhole, StopsWhole}
-use Rattle.object_fold.specs.declared.fault.FileFault.{FileFault}
-use Rattle.object_fold.specs.declared.fault.FileFault.TheVariants as file_faults
-use Rattle.object_fold.specs.declared.whole.WholeFault.{WholeFault}
-use Rattle.object_fold.specs.declared.whole.WholeFault.TheVariants as wholes
+use Rattle.opl_files.specs.Entries.{IsAccepted, entries_of}
+use Rattle.opl_files.specs.Reading.{HasEntries, IsFaultOf}
+use Rattle.outside.specs.Reads.{IsReadAlone}
+use Rattle.opl_files.specs.Stops.{Stops}
+use Rattle.opl_files.specs.Whole.{IsOver, IsWhole, StopsWhole}
+use Rattle.opl_files.specs.declared.fault.FileFault.{FileFault}
+use Rattle.opl_files.specs.declared.fault.FileFault.TheVariants as file_faults
+use Rattle.opl_files.specs.declared.whole.WholeFault.{WholeFault}
+use Rattle.opl_files.specs.declared.whole.WholeFault.TheVariants as wholes
 use Rattle.style_read.specs.Reading.{Gives, reading}
 use Rattle.style_read.specs.Style.{StyleOf}
 use Rattle.style_read.specs.declared.fault.StyleFault.{StyleFault}

@@ -11,7 +11,7 @@ use Rattle.outside.specs.Disk.{Stays}
 use Rattle.outside.specs.Inputs.{FilesView}
 use Rattle.outside.specs.Sink.{SinkView}
 use Rattle.outside.specs.declared.disk.Disk.{Ghosts}
-use Rattle.object_fold.specs.Reading.{IsReadAlone}
+use Rattle.outside.specs.Reads.{IsReadAlone}
 use Rattle.delta_feed.specs.declared.block.Block.{Block}
 use Rattle.delta_feed.specs.declared.block.Block.TheVariants as blocks
 use Rattle.delta_feed.specs.declared.fault.FeedFault.{FeedFault}

@@ -9,7 +9,7 @@ use Rattle.outside.specs.Bytes.{BothKnown, IfTold}
 use Rattle.outside.specs.Causes.{Rose}
 use Rattle.outside.specs.Inputs.{FilesView}
 use Rattle.outside.specs.Sink.{SinkView}
-use Rattle.object_fold.specs.Reading.{IsReadAlone, ReadsNoOther}
+use Rattle.outside.specs.Reads.{IsReadAlone, ReadsNoOther}
 use Rattle.opl_lines.specs.Lines.{lines_of}
 use Rattle.opl_lines.proofs.LineLemmas.{lines_of-some}
 use Rattle.style_read.specs.Style.{StyleOf}

@@ -11,7 +11,7 @@ use Rattle.outside.specs.Causes.{HasCause as HasCauseOf, Rose}
 use Rattle.outside.specs.Disk.{DiskView, Stays}
 use Rattle.outside.specs.Inputs.{FilesView}
 use Rattle.outside.specs.Sink.{SinkView}
-use Rattle.object_fold.specs.Reading.{IsReadAlone}
+use Rattle.outside.specs.Reads.{IsReadAlone}
 use Rattle.page_journal.specs.declared.fault.StoreFault.TheVariants as stores
 use Rattle.delta_feed.specs.declared.block.Block.{Block}
 use Rattle.delta_feed.specs.declared.block.Block.TheVariants as blocks

@@ -13,7 +13,7 @@ use Rattle.run_promise.specs.declared.fault.Fault.TheVariants as faults
 use Rattle.run_promise.specs.Comes.{AreTold, Comes, IsCertain, BreaksIn, unread, short, refused}
 use Rattle.run_promise.specs.Course.{Course, ends, refuses, reads, tells, writes, feeds}
 use Rattle.run_promise.specs.FeedBlocks.{IsFeedBlock}
-use Rattle.object_fold.specs.Reading.{IsReadAlone}
+use Rattle.outside.specs.Reads.{IsReadAlone}
 use Rattle.updater.specs.FileReads.{IsRead, IsUnread, StopsFor}
 use Rattle.updater.specs.Heads.{GoesOn, IsSoFar}
 use Rattle.run_promise.specs.Leaves.{HasCause, Leaves, StandsOn}

@@ -7,17 +7,16 @@ use Rattle.std.proofs.lemmas.List.Sums.{fold-append}
 use Rattle.osm_base.specs.declared.values.object.Entry.{Entry}
 use Rattle.osm_base.specs.bounds.Limits.{standard}
 use Rattle.outside.specs.Bytes.{AppendsPrefix, BothKnown, IfTold, IsTold}
-use Rattle.outside.specs.Causes.{Rose}
-use Rattle.outside.specs.Causes.{HasCause as HasCauseOf}
+use Rattle.outside.specs.Causes.{Rose, HasCause as HasCauseOf}
 use Rattle.outside.specs.Disk.{DiskView}
 use Rattle.outside.specs.Inputs.{FilesView}
 use Rattle.outside.specs.Sink.{SinkView}
-use Rattle.object_fold.specs.declared.fault.FileFault.{FileFault}
-use Rattle.object_fold.specs.declared.fault.FileFault.TheVariants as file_faults
-use Rattle.object_fold.specs.Entries.{entries_of}
-use Rattle.object_fold.specs.Keeps.{kept_all}
-use Rattle.object_fold.specs.Reading.{ReadsAll, IsFaultOf}
-use Rattle.object_fold.specs.Stops.{Stops}
+use Rattle.opl_files.specs.declared.fault.FileFault.{FileFault}
+use Rattle.opl_files.specs.declared.fault.FileFault.TheVariants as file_faults
+use Rattle.opl_files.specs.Entries.{entries_of}
+use Rattle.opl_files.specs.Keeps.{kept_all}
+use Rattle.opl_files.specs.Reading.{ReadsAll, IsFaultOf}
+use Rattle.opl_files.specs.Stops.{Stops}
 use Rattle.run_promise.specs.declared.fault.Fault.{Fault}
 use Rattle.run_promise.specs.declared.fault.Fault.TheVariants as faults
 use Rattle.run_promise.specs.Comes.{Comes, BreaksIn, unread, short, refused}

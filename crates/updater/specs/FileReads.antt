@@ -1,6 +1,6 @@
 -- What reading a file of a command comes to.
 use Rattle.std.specs.Prelude.{◌≡◌, ◌≤◌, ◌<◌, ◌+◌, ℕ, List, [], Some, Result, Ok, Err, IfOk, IfErr, replicate}
-use Rattle.object_fold.specs.Reading.{IsReadAlone}
+use Rattle.outside.specs.Reads.{IsReadAlone}
 use Rattle.outside.specs.Bytes.{IfTold}
 use Rattle.outside.specs.Causes.{Rose}
 use Rattle.outside.specs.Inputs.{FilesView}

@@ -1,7 +1,7 @@
 -- How a store follows another one through the files of its feed: a block is taken and told, and so is file after file.
 use Rattle.std.specs.Prelude.{◌≡◌, ◌≢◌, ◌⊎◌, ℕ, ◌+◌, suc, Bool, true, false, List, [], ◌∷◌, Option, None, Some, Result, Ok, Err}
 use Rattle.osm_base.specs.bounds.Limits.{standard}
-use Rattle.object_fold.specs.Reading.{ReadsNoOther}
+use Rattle.outside.specs.Reads.{ReadsNoOther}
 use Rattle.outside.specs.Bytes.{BothKnown, IfTold, IsTold}
 use Rattle.outside.specs.Inputs.{FilesView}
 use Rattle.outside.specs.Sink.{SinkView}

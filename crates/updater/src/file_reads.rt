@@ -7,7 +7,8 @@ ghost use Rattle.run_promise.specs.Files.{IsBounds, IsChange, IsQueries, IsStyle
 
 use geom_workers::Hands;
 use map_query::{Queries, read_queries};
-use object_fold::{Change, read_all, read_parallel};
+use object_fold::Change;
+use opl_files::{read_all, read_parallel};
 use osm_base::{Bytes, LimitKind, Limits, MAX_ENTRIES};
 use outside::Inputs;
 use run_promise::{Fault, MAX_WHOLE};

@@ -1,7 +1,7 @@
 //! A store follows another one through the files of its feed, block by block: each is read, taken in one commit, and told.
 ghost use Rattle.std.specs.Prelude.{◌≡◌, ◌<◌, ◌≤◌, ◌+◌, ℕ, Ok, true, OnOk, replicate};
 ghost use Rattle.std.specs.Result.{result_err};
-ghost use Rattle.object_fold.specs.Reading.{IsReadAlone};
+ghost use Rattle.outside.specs.Reads.{IsReadAlone};
 ghost use Rattle.outside.specs.Inputs.{FilesView};
 ghost use Rattle.delta_feed.specs.Sound.{IsSound as IsSoundBlock};
 ghost use Rattle.update_flow.specs.Handle.{style_of, view_of};

@@ -12,7 +12,7 @@ use crate::file_reads::READERS;
 use crate::forms::{Words, keyed};
 use crate::telling::tell;
 use crate::words::Command;
-use object_fold::scan_parallel;
+use opl_files::scan_parallel;
 use osm_base::Limits;
 use outside::{Disk, Inputs, Sink};
 use run_promise::{Fault, Files};

@@ -3,7 +3,7 @@ use Rattle.osm_base.specs.declared.bounds.limits.TheConstants.{MAX_ENTRIES}
 use Rattle.osm_base.specs.declared.values.object.Entry.{Entry}
 use Rattle.osm_base.specs.declared.bounds.limits.LimitNumbers.{LimitNumbers}
 use Rattle.outside.specs.Bytes.{IfTold}
-use Rattle.object_fold.specs.Entries.{IsAccepted}
+use Rattle.opl_files.specs.Entries.{IsAccepted}
 use Rattle.updater.proofs.FileLaws.{too_many}
 use Rattle.updater.proofs.file_reads.read_change.Goals as goal
 

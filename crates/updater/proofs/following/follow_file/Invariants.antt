@@ -1,6 +1,6 @@
 use Rattle.std.proofs.Common.{◌-◌, None}
 use Rattle.osm_base.specs.bounds.Limits.{standard}
-use Rattle.object_fold.specs.Reading.{ReadsNoOther}
+use Rattle.outside.specs.Reads.{ReadsNoOther}
 use Rattle.update_flow.specs.Follower.{handle_of}
 use Rattle.update_flow.specs.State.{State}
 use Rattle.run_promise.specs.Progress.{Progress}

@@ -1,5 +1,5 @@
 use Rattle.std.proofs.Common.{rules, ℕ, subst}
-use Rattle.object_fold.specs.Whole.{MovesBytes}
+use Rattle.outside.specs.Reads.{MovesBytes}
 use Rattle.delta_feed.proofs.BlockSteps.{moved_more}
 use Rattle.delta_feed.proofs.Known.{reads_on}
 use Rattle.delta_feed.proofs.reader.FeedReader.look.Goals as goal

@@ -1,5 +1,5 @@
 use Rattle.std.proofs.Common.{◌≡◌, ◌-◌, length}
-use Rattle.object_fold.specs.Reading.{ReadsNoOther}
+use Rattle.outside.specs.Reads.{ReadsNoOther}
 use Rattle.delta_feed.specs.Feeding.{IsSameReader}
 use Rattle.delta_feed.proofs.BlockSteps.{Moved}
 use Rattle.delta_feed.proofs.reader.FeedReader.look.Given as goal

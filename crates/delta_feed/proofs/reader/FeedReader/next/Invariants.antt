@@ -1,6 +1,6 @@
 use Rattle.std.proofs.Common.{◌-◌, ◌≤◌}
 use Rattle.std.specs.Option.{option_copied}
-use Rattle.object_fold.specs.Reading.{ReadsNoOther}
+use Rattle.outside.specs.Reads.{ReadsNoOther}
 use Rattle.delta_feed.specs.Feeding.{IsGoing, IsSameReader}
 use Rattle.delta_feed.specs.Sound.{IsSoundStage}
 use Rattle.delta_feed.proofs.BlockSteps.{IsFirst, LeadsTo}

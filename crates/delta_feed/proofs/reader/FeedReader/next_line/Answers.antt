@@ -1,5 +1,5 @@
 use Rattle.std.proofs.Common.{rules, ℕ, Bool, false, sym, ap, ◌∙◌, subst, arith}
-use Rattle.object_fold.specs.Whole.{MovesBytes}
+use Rattle.outside.specs.Reads.{MovesBytes}
 use Rattle.opl_lines.specs.Lines.{lines_of}
 use Rattle.opl_lines.specs.Reading.{Reading, begun}
 use Rattle.delta_feed.specs.Feeding.{TakesPiece}

@@ -1,5 +1,5 @@
 use Rattle.std.proofs.Common.{◌≡◌}
-use Rattle.object_fold.specs.Reading.{ReadsNoOther}
+use Rattle.outside.specs.Reads.{ReadsNoOther}
 use Rattle.opl_lines.specs.Reading.{room}
 use Rattle.delta_feed.specs.Feeding.{IsReading, IsSameReader}
 use Rattle.delta_feed.proofs.LineSteps.{Left}

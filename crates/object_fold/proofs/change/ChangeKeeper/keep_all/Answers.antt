@@ -3,8 +3,7 @@ use Rattle.osm_base.specs.declared.values.object.Entry.{Entry}
 use Rattle.osm_base.specs.values.Key.{KeyOf}
 use Rattle.object_fold.specs.Change.{Follows, last_key}
 use Rattle.object_fold.specs.Keeps.{pushed}
-use Rattle.object_fold.proofs.Joined.{follows_joined, rise_joined}
-use Rattle.object_fold.proofs.WholeFile.{fold-pushed}
+use Rattle.object_fold.proofs.Joined.{fold-pushed, follows_joined, rise_joined}
 use Rattle.object_fold.proofs.change.ChangeKeeper.keep_all.Goals as goal
 
 pub invariant_of-self-2 : goal.invariant_of-self-2

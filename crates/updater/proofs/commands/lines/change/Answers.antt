@@ -1,7 +1,7 @@
 use Rattle.std.proofs.Common.{List, ap, subst, ◌∙◌}
 use Rattle.osm_base.specs.declared.values.object.Entry.{Entry}
 use Rattle.osm_base.specs.map.Objects.{folded_all}
-use Rattle.object_fold.specs.Reading.{ReadsAll}
+use Rattle.opl_files.specs.Reading.{ReadsAll}
 use Rattle.tag_rows.specs.TrimmedChange.{TrimmedEntries, with_entry}
 use Rattle.tag_rows.proofs.TrimmedLaws.{taken-reads}
 use Rattle.updater.proofs.commands.lines.change.Goals as goal

@@ -2,8 +2,8 @@ use Rattle.std.proofs.Common.{◌-◌, ◌+◌, ◌∙◌, arith, refl, subst}
 use Rattle.std.specs.Result.{result_err}
 use Rattle.std.specs.Str.{chars}
 use Rattle.osm_base.specs.declared.bounds.limits.LimitNumbers.{LimitNumbers}
-use Rattle.object_fold.specs.Reading.{IsFaultOf, ReadsAll}
-use Rattle.object_fold.specs.Stops.{Stops}
+use Rattle.opl_files.specs.Reading.{IsFaultOf, ReadsAll}
+use Rattle.opl_files.specs.Stops.{Stops}
 use Rattle.outside.specs.Causes.{Rose}
 use Rattle.run_promise.specs.CommandOf.{Names, lines_of}
 use Rattle.run_promise.specs.Course.{ends, writes_text}

@@ -1,5 +1,0 @@
-use Rattle.object_fold.proofs.Proper.{reading-IsProper}
-use Rattle.object_fold.proofs.passed.Passed.read.Goals as goal
-
-pub returns-clause-proper : goal.returns-clause-proper
-returns-clause-proper c = reading-IsProper c.args.line.now c.in-Ok-Some.entry (rw c.in-Ok-Some.field-0-is at c.in-Ok-Some.ensures.exact)

@@ -1,0 +1,9 @@
+mod Accepted
+mod Lines
+mod LotLaws
+mod PartLaws
+mod Pieces
+mod Proper
+mod ShareLaws
+mod Undecided
+mod WholeFile

@@ -1,0 +1,11 @@
+pub mod Ahead
+pub mod Entries
+pub mod Keeps
+pub mod Lots
+pub mod Parts
+pub mod Passed
+pub mod Progress
+pub mod Reading
+pub mod ReadsOnly
+pub mod Stops
+pub mod Whole
